@@ -1,0 +1,150 @@
+-- The book, what it says, and how it is read, with refusals 1 to 8 (document 01, "The book" and "Refusals by number").
+use Prim.Native.Nat.{ℕ, zero, suc, _+_, _*_}
+use mathlib.Core.Bool.{Bool, not, _&&_, _||_}
+use mathlib.Core.List.{List, [], _∷_, map}
+use lib.Dec.{ltb, eqb}
+use lib.IntN.{ℤ, pos, natAbs}
+use lib.ListN.{length}
+use Rattle.model.specs.declared.Refusal.the-variants.{Unterminated, NotHex, WrongKind, SlotsOrOptionsOutOfRange, WrongLength, LoadsOrFinenessOutOfRange, ReactiveExceedsActive, TrailingBytes}
+use Rattle.model.specs.Lists.{within, upto, all, any, isEmpty}
+use Rattle.model.specs.Frames.{isDigit, field, signed, hasLine, lineOf, afterLine}
+use Rattle.model.specs.Refusals.{Result, done, Rule, _⇒_, first, checked, andThen}
+
+-- ---- what a book says
+
+-- "P is active power in tenths of a kW, Q reactive power in tenths of a kvar"
+pub record Power : Type 0 where
+  pub p : ℕ
+  pub q : ℤ
+
+abbrev pub noPower : Power
+noPower = record { p = 0; q = pos 0 }
+
+-- one way to run a load or to leave it standing: its number c, its worth, and its power in each slot
+pub record Setting : Type 0 where
+  pub number : ℕ
+  pub worth : ℕ
+  pub powers : List Power
+
+-- a load is the list of the settings that it offers, by ascending number
+abbrev pub Settings : Type 0
+Settings = List Setting
+
+-- a book: d, the budget, the limit S of each of its T slots, and its N loads
+pub record Problem : Type 0 where
+  pub fineness : ℕ
+  pub budget : ℕ
+  pub limits : List ℕ
+  pub loads : List Settings
+
+-- ---- the header: "kind `01`, T (2 digits), N (2), d (2), budget (8), then T limits S (4 each). It has 16 + 4T digits."
+
+abbrev pub slotCount : List ℕ → ℕ
+slotCount line = field line 2 2
+
+abbrev pub loadCount : List ℕ → ℕ
+loadCount line = field line 4 2
+
+abbrev pub finenessIn : List ℕ → ℕ
+finenessIn line = field line 6 2
+
+abbrev pub budgetIn : List ℕ → ℕ
+budgetIn line = field line 8 8
+
+abbrev pub limitsIn : List ℕ → List ℕ
+limitsIn line = map (λ s. field line (16 + 4 * s) 4) (upto (slotCount line))
+
+-- the header's line, and the loads
+abbrev pub problem : List ℕ → List Settings → Problem
+problem line loads =
+    record { fineness = finenessIn line; budget = budgetIn line; limits = limitsIn line; loads = loads }
+
+-- ---- a load line: "kind `02`, o (2 digits), then o options. An option is a worth (4), then for each slot P (4) and Q (4, two's complement
+-- of 16 bits). A line has 4 + o × (4 + 8T) digits."
+
+abbrev pub optionCount : List ℕ → ℕ
+optionCount line = field line 2 2
+
+-- where option j + 1 starts, in a book of t slots
+unfoldable pub optionStart : ℕ → ℕ → ℕ
+optionStart t j = 4 + j * (4 + 8 * t)
+
+-- the P and Q that start at a place
+abbrev pub powerAt : List ℕ → ℕ → Power
+powerAt line at = record { p = field line at 4; q = signed 16 (field line (at + 4) 4) }
+
+-- the option whose digits start at a place, and whose number is c
+abbrev pub optionAt : ℕ → List ℕ → ℕ → ℕ → Setting
+optionAt t line c at =
+    record { number = c; worth = field line at 4; powers = map (λ s. powerAt line (at + 4 + 8 * s)) (upto t) }
+
+abbrev pub options : ℕ → List ℕ → Settings
+options t line = map (λ j. optionAt t line (suc j) (optionStart t j)) (upto (optionCount line))
+
+-- "0 is standing and draws nothing": no worth, and no power in each of t slots
+abbrev pub standing : ℕ → Setting
+standing t = record { number = 0; worth = 0; powers = map (λ s. noPower) (upto t) }
+
+-- "a number c from 0 to its o": standing, then the options
+abbrev pub settings : ℕ → List ℕ → Settings
+settings t line = standing t ∷ options t line
+
+-- ---- reading: "Lines are read in order, and on each line 1 to 7 are tried in this order, as far as they concern it."
+
+-- 1: "a line is due and no LF follows"
+abbrev pub lineRule : List ℕ → Rule
+lineRule bytes = not (hasLine bytes) ⇒ Unterminated
+
+-- 2: "a byte of the line is no digit 0-9 A-F"
+abbrev pub hexRule : List ℕ → Rule
+hexRule line = not (all isDigit line) ⇒ NotHex
+
+-- 3: "fewer than 4 digits, or kind not the one due"
+abbrev pub kindRule : ℕ → List ℕ → Rule
+kindRule kind line = ltb (length line) 4 || not (eqb (field line 0 2) kind) ⇒ WrongKind
+
+-- 4: "T not 1 to 4"; 5: "number of digits not the stated one"; 6: "N or d outside its range"
+unfoldable pub headerRules : List ℕ → List Rule
+headerRules line =
+    hexRule line
+    ∷ kindRule 1 line
+    ∷ (not (within 1 4 (slotCount line)) ⇒ SlotsOrOptionsOutOfRange)
+    ∷ (not (eqb (length line) (16 + 4 * slotCount line)) ⇒ WrongLength)
+    ∷ (not (within 1 24 (loadCount line) && within 1 64 (finenessIn line)) ⇒ LoadsOrFinenessOutOfRange)
+    ∷ []
+
+-- |Q| > P
+abbrev pub reactiveExceeds : Power → Bool
+reactiveExceeds x = ltb (x .p) (natAbs (x .q))
+
+-- "|Q| > P in some option and slot"
+unfoldable pub someExceeds : Settings → Bool
+someExceeds vs = any (λ v. any reactiveExceeds (v .powers)) vs
+
+-- 4: "o not 1 to 3"; 5; 7: "|Q| > P in some option and slot"
+unfoldable pub loadRules : ℕ → List ℕ → List Rule
+loadRules t line =
+    hexRule line
+    ∷ kindRule 2 line
+    ∷ (not (within 1 3 (optionCount line)) ⇒ SlotsOrOptionsOutOfRange)
+    ∷ (not (eqb (length line) (optionStart t (optionCount line))) ⇒ WrongLength)
+    ∷ (someExceeds (options t line) ⇒ ReactiveExceedsActive)
+    ∷ []
+
+-- 8: "bytes remain after the last load line"
+abbrev pub endRules : List ℕ → List Rule
+endRules bytes = (not (isEmpty bytes) ⇒ TrailingBytes) ∷ []
+
+-- the loads on the lines that are due, of which the next has this number; then nothing follows
+unfoldable pub readLoads : ℕ → ℕ → ℕ → List ℕ → Result (List Settings)
+readLoads t zero number bytes = checked number (first (endRules bytes)) (done [])
+readLoads t (suc left) number bytes =
+    checked number (first (lineRule bytes ∷ loadRules t (lineOf bytes)))
+    (andThen (readLoads t left (suc number) (afterLine bytes)) (λ loads. done (settings t (lineOf bytes) ∷ loads)))
+
+-- the book in these bytes, or the first refusal of 1 to 8
+unfoldable pub readBook : List ℕ → Result Problem
+readBook bytes =
+    checked 1 (first (lineRule bytes ∷ headerRules (lineOf bytes)))
+    (andThen (readLoads (slotCount (lineOf bytes)) (loadCount (lineOf bytes)) 2 (afterLine bytes))
+    (λ loads. done (problem (lineOf bytes) loads)))

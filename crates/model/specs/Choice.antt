@@ -1,0 +1,61 @@
+-- Choices, their worth, code and true sums (document 01, "Choice, sums and grid").
+use Prim.Native.Nat.{ℕ, suc, _+_, _*_}
+use mathlib.Core.List.{List, [], _∷_, _++_, map}
+use lib.IntN.{ℤ, pos, negsuc, _+ℤ_}
+use lib.ListN.{getD}
+use Rattle.model.specs.Lists.{Mem}
+use Rattle.model.specs.Book.{Power, noPower, Setting, Settings}
+
+-- "A choice gives each load k (1 to N, in book order) a number c": here the setting of that number
+abbrev pub Choice : Type 0
+Choice = List Setting
+
+-- one setting of each load, in book order
+abbrev pub IsChoice : List Settings → Choice → Type 0
+IsChoice [] [] = Unit {0}
+IsChoice [] (v ∷ c) = ⊥
+IsChoice (vs ∷ loads) [] = ⊥
+IsChoice (vs ∷ loads) (v ∷ c) = Mem v vs × IsChoice loads c
+
+-- each setting of a load before each choice of the loads after it
+abbrev pub withEach : Settings → List Choice → List Choice
+withEach vs [] = []
+withEach vs (c ∷ cs) = map (λ v. v ∷ c) vs ++ withEach vs cs
+
+-- all choices, by ascending code
+abbrev pub choices : List Settings → List Choice
+choices [] = [] ∷ []
+choices (vs ∷ loads) = withEach vs (choices loads)
+
+-- "Its worth is the sum of the worths of the chosen options"
+abbrev pub worthOf : Choice → ℕ
+worthOf [] = 0
+worthOf (v ∷ c) = v .worth + worthOf c
+
+-- "Its code is the sum of c × 4^(k-1)"
+abbrev pub codeOf : Choice → ℕ
+codeOf [] = 0
+codeOf (v ∷ c) = v .number + 4 * codeOf c
+
+abbrev pub plus : Power → Power → Power
+plus x y = record { p = x .p + y .p; q = x .q +ℤ y .q }
+
+-- the power of a setting in a slot; slots are counted from 0
+abbrev pub powerIn : ℕ → Setting → Power
+powerIn slot v = getD (v .powers) slot noPower
+
+-- "Its sums in a slot, also called its true sums, are those of the chosen P and Q, unrounded"
+abbrev pub sumIn : ℕ → Choice → Power
+sumIn slot [] = noPower
+sumIn slot (v ∷ c) = plus (powerIn slot v) (sumIn slot c)
+
+abbrev pub square : ℕ → ℕ
+square x = x * x
+
+abbrev pub squareℤ : ℤ → ℕ
+squareℤ (pos n) = n * n
+squareℤ (negsuc n) = suc n * suc n
+
+-- P² + Q², the square of the apparent power
+abbrev pub apparentSquared : Power → ℕ
+apparentSquared x = square (x .p) + squareℤ (x .q)

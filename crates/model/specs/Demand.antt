@@ -1,0 +1,43 @@
+-- Demand 3, of the book's bytes and the bytes of the sheet buffer after a call that gave a sheet.
+use Prim.Native.Nat.{ℕ, _+_, _*_, _<_, _≤_}
+use mathlib.Core.Path.{_≡_}
+use mathlib.Core.List.{List}
+use lib.ListN.{length, getD}
+use Rattle.model.specs.Frames.{field}
+use Rattle.model.specs.Refusals.{Result, done}
+use Rattle.model.specs.Book.{Problem, readBook, standing}
+use Rattle.model.specs.Choice.{Choice, IsChoice, worthOf, sumIn, square, squareℤ}
+
+-- P² + Q², of a choice's true sums in a slot; slots are counted from 0 to T - 1
+abbrev pub P²+Q² : ℕ → Choice → ℕ
+P²+Q² slot c = square (sumIn slot c .p) + squareℤ (sumIn slot c .q)
+
+-- the limit there
+abbrev pub S : Problem → ℕ → ℕ
+S b slot = getD (b .limits) slot 0
+
+abbrev pub T : Problem → ℕ
+T b = length (b .limits)
+
+abbrev pub N : Problem → ℕ
+N b = length (b .loads)
+
+-- "the sheet's choice": one setting for each load of the book, whose number c and whose worth stand on the sheet's first line
+pub record OnSheet (b : Problem) (sheet : List ℕ) (choice : Choice) : Type 0 where
+  pub of-book : IsChoice (b .loads) choice
+  pub numbers : (k : ℕ) → k < N b → field sheet (18 + 2 * k) 2 ≡ getD choice k (standing (T b)) .number
+  pub worth : field sheet 2 8 ≡ worthOf choice
+
+pub record Demand3 (book sheet : List ℕ) : Type 0 where
+  -- the book as it is read, with N loads and fineness d, and the sheet's choice
+  pub b : Problem
+  pub reads : readBook book ≡ done b
+  pub choice : Choice
+  pub on-sheet : OnSheet b sheet choice
+  -- "the sheet's choice is worth at least as much as every other choice that keeps P² + Q² ≤ S² in every slot"
+  pub worth : (other : Choice) → IsChoice (b .loads) other → ((slot : ℕ) → slot < T b → P²+Q² slot other ≤ square (S b slot))
+      → worthOf other ≤ worthOf choice
+  -- "it keeps d²(P² + Q²) ≤ (d + 2)²S² in every slot"
+  pub overload : (slot : ℕ) → slot < T b → square (b .fineness) * P²+Q² slot choice ≤ square (b .fineness + 2) * square (S b slot)
+  -- "and P² + Q² ≤ S² in every slot where S < 2Nd"
+  pub exact : (slot : ℕ) → slot < T b → S b slot < 2 * (N b * b .fineness) → P²+Q² slot choice ≤ square (S b slot)

@@ -1,0 +1,17 @@
+-- What the program prints (document 01, "Quick planner and sheet reader", last sentence).
+use Prim.Native.Nat.{ℕ}
+use mathlib.Core.List.{List, _++_}
+use lib.ListN.{take}
+use Rattle.model.specs.Frames.{digits}
+use Rattle.model.specs.Refusals.{Result, refused, done, numberOf}
+use Rattle.model.specs.Sheet.{Sheet, lf}
+use Rattle.model.specs.Calls.{plannerResult}
+
+-- "prints the planner's sheet, or one line `FF`, number (2 digits), line (4 digits), ended by LF"
+abbrev pub printed : Result Sheet → List ℕ
+printed (refused r number) = digits 2 255 ++ digits 2 (numberOf r) ++ digits 4 number ++ lf
+printed (done s) = s .bytes
+
+-- "takes the first 4,096 bytes of its input as the book", "lends 6,144 words"; the longest sheet has 159 bytes
+unfoldable pub programOutput : List ℕ → List ℕ
+programOutput input = printed (plannerResult (take 4096 input) 6144 159)

@@ -1,0 +1,45 @@
+-- The bytes of a sheet (document 01, "The sheet").
+use Prim.Native.Nat.{ℕ, _+_, _*_}
+use mathlib.Core.List.{List, [], _∷_, _++_, map}
+use lib.ListN.{length}
+use Rattle.model.specs.Lists.{concat}
+use Rattle.model.specs.Frames.{digits, unsigned}
+use Rattle.model.specs.Book.{Power, Setting, Problem}
+use Rattle.model.specs.Choice.{Choice, worthOf, sumIn}
+use Rattle.model.specs.Grid.{Slot, slotsOf}
+
+-- what a planner gives: the bytes, the worth and the trials
+pub record Sheet : Type 0 where
+  pub bytes : List ℕ
+  pub worth : ℕ
+  pub trials : ℕ
+
+-- "each line ended by one LF"
+abbrev pub lf : List ℕ
+lf = 10 ∷ []
+
+-- "c of each load (2 each)"
+unfoldable pub numbersOf : Choice → List ℕ
+numbersOf c = concat (map (λ v. digits 2 (v .number)) c)
+
+-- "The first line: `04`, worth (8 digits), trials (8), then c of each load (2 each)"
+unfoldable pub firstLine : Choice → ℕ → List ℕ
+firstLine c t = digits 2 4 ++ digits 8 (worthOf c) ++ digits 8 t ++ numbersOf c ++ lf
+
+-- "Then for each slot: `05`, sum of P (8), sum of Q (8, two's complement of 32 bits), S (4)"
+unfoldable pub slotLine : ℕ → Power → List ℕ
+slotLine limit x = digits 2 5 ++ digits 8 (x .p) ++ digits 8 (unsigned 32 (x .q)) ++ digits 4 limit ++ lf
+
+unfoldable pub slotLines : List Slot → Choice → List ℕ
+slotLines slots c = concat (map (λ s. slotLine (s .limit) (sumIn (s .place) c)) slots)
+
+-- the sheet of a choice and a number of trials
+unfoldable pub sheetBytes : Problem → Choice → ℕ → List ℕ
+sheetBytes b c t = firstLine c t ++ slotLines (slotsOf b) c
+
+abbrev pub sheetOf : Problem → Choice → ℕ → Sheet
+sheetOf b c t = record { bytes = sheetBytes b c t; worth = worthOf c; trials = t }
+
+-- how many bytes every sheet for this book has
+abbrev pub sheetLength : Problem → ℕ
+sheetLength b = 19 + 2 * length (b .loads) + 23 * length (b .limits)

@@ -1,0 +1,70 @@
+-- The sheet reader (document 01, "Quick planner and sheet reader").
+use Prim.Native.Nat.{ℕ, suc, _+_, _*_, _^_, _<_}
+use mathlib.Core.Path.{_≡_}
+use mathlib.Core.Bool.{Bool, cond, not}
+use mathlib.Core.List.{List, [], _∷_}
+use mathlib.Core.Option.{Option, none, some}
+use lib.Dec.{eqb}
+use Rattle.model.specs.declared.SheetAnswer.{SheetAnswer}
+use Rattle.model.specs.declared.Refusal.the-variants.{ForeignSheet}
+use Rattle.model.specs.Lists.{sameLists}
+use Rattle.model.specs.Frames.{field}
+use Rattle.model.specs.Refusals.{Result, refused, done, _⇒_, first, checked, andThen, numberOf}
+use Rattle.model.specs.Book.{Setting, Settings, Problem, readBook}
+use Rattle.model.specs.Choice.{Choice, IsChoice, codeOf, worthOf}
+use Rattle.model.specs.Sheet.{sheetBytes}
+
+-- a sheet that belongs to a book: its "bytes are exactly those that some choice and some trials number from 0 to 2^32 - 1 give for this book"
+pub record SheetOf (b : Problem) (sheet : List ℕ) : Type 0 where
+  pub choice : Choice
+  pub of-book : IsChoice (b .loads) choice
+  pub trials : ℕ
+  pub bound : trials < 2 ^ 32
+  pub bytes : sheet ≡ sheetBytes b choice trials
+
+-- "It answers that choice's code, its worth and the trials"
+pub record SheetData : Type 0 where
+  pub code : ℕ
+  pub worth : ℕ
+  pub trials : ℕ
+
+-- the setting with a number, if the load has it
+abbrev pub settingNumbered : ℕ → Settings → Option Setting
+settingNumbered n [] = none
+settingNumbered n (v ∷ vs) = cond (eqb (v .number) n) (some v) (settingNumbered n vs)
+
+abbrev pub consBoth : Option Setting → Option Choice → Option Choice
+consBoth none c = none
+consBoth (some v) none = none
+consBoth (some v) (some c) = some (v ∷ c)
+
+-- the choice whose numbers stand on the first line, from load k + 1 on
+abbrev pub choiceFrom : List ℕ → ℕ → List Settings → Option Choice
+choiceFrom sheet k [] = some []
+choiceFrom sheet k (vs ∷ loads) = consBoth (settingNumbered (field sheet (18 + 2 * k) 2) vs) (choiceFrom sheet (suc k) loads)
+
+abbrev pub trialsOn : List ℕ → ℕ
+trialsOn sheet = field sheet 10 8
+
+-- 13, unless the sheet is the one that the choice and the trials on its own first line give: this finds the `SheetOf` that there is
+-- (proofs/SheetLaws, `reader-accepts` and `reader-only`)
+abbrev pub readAs : List ℕ → Problem → Option Choice → Result SheetData
+readAs sheet b none = refused ForeignSheet 0
+readAs sheet b (some c) =
+    checked 0 (first ((not (sameLists eqb sheet (sheetBytes b c (trialsOn sheet))) ⇒ ForeignSheet) ∷ []))
+    (done (record { code = codeOf c; worth = worthOf c; trials = trialsOn sheet }))
+
+-- the sheet reader's result for one book
+unfoldable pub sheetData : List ℕ → Problem → Result SheetData
+sheetData sheet b = readAs sheet b (choiceFrom sheet 0 (b .loads))
+
+-- the sheet reader's result
+unfoldable pub readerResult : List ℕ → List ℕ → Result SheetData
+readerResult book sheet = andThen (readBook book) (sheetData sheet)
+
+-- "with 0 bytes written; the code is 0 on refusal"
+abbrev pub sheetAnswerOf : Result SheetData → SheetAnswer
+sheetAnswerOf (refused r number) =
+    record { number = numberOf r; line = number; bytes = 0; worth = 0; trials = 0; code = 0 }
+sheetAnswerOf (done x) =
+    record { number = 0; line = 0; bytes = 0; worth = x .worth; trials = x .trials; code = x .code }

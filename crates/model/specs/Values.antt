@@ -1,0 +1,84 @@
+-- What the values of the declared types Load, Book and Reading hold (src/lib.rt).
+use Prim.Native.Nat.{ℕ, _+_, _-_, _*_, _/_, _%_}
+use mathlib.Core.List.{List, [], map}
+use lib.IntN.{ℤ, pos, negsuc, subℕ}
+use lib.ListN.{length, getD, take, replicate}
+use Rattle.model.specs.declared.Load.{Load}
+use Rattle.model.specs.declared.Book.{Book}
+use Rattle.model.specs.declared.Answer.{Answer}
+use Rattle.model.specs.declared.Reading.{Reading}
+use Rattle.model.specs.Lists.{upto}
+use Rattle.model.specs.Refusals.{Result, refused, done, numberOf}
+use Rattle.model.specs.Book.{Power, Setting, Settings, Problem}
+use Rattle.model.specs.Choice.{powerIn}
+use Rattle.model.specs.Quick.{noSetting}
+
+-- Q + 32,768, which is not negative for a Q of 16 bits
+unfoldable pub raised : ℤ → ℕ
+raised (pos n) = n + 32768
+raised (negsuc n) = 32767 - n
+
+-- setting c of a load
+abbrev pub settingOf : Settings → ℕ → Setting
+settingOf vs c = getD vs c noSetting
+
+-- the power at place 4 c + s of a load's arrays: of setting c in slot s
+unfoldable pub powerOf : Settings → ℕ → Power
+powerOf vs k = powerIn (k % 4) (settingOf vs (k / 4))
+
+-- the value that holds a load's settings; past the last setting and slot stand no worth and no power
+unfoldable pub loadValue : Settings → Load
+loadValue vs =
+    record {
+      settings = length vs;
+      worths = map (λ c. settingOf vs c .worth) (upto 4);
+      actives = map (λ k. powerOf vs k .p) (upto 16);
+      reactives = map (λ k. raised (powerOf vs k .q)) (upto 16);
+    }
+
+-- the value that holds a book; past the last load stand loads with no settings
+unfoldable pub bookValue : Problem → Book
+bookValue b =
+    record {
+      slots = length (b .limits);
+      count = length (b .loads);
+      fineness = b .fineness;
+      budget = b .budget;
+      limits = map (λ s. getD (b .limits) s 0) (upto 4);
+      loads = map (λ k. loadValue (getD (b .loads) k [])) (upto 24);
+    }
+
+-- a book with nothing in it
+unfoldable pub freshBook : Book
+freshBook =
+    record { slots = 0; count = 0; fineness = 0; budget = 0; limits = replicate 4 0; loads = replicate 24 (loadValue []) }
+
+-- what the book reader answers
+abbrev pub readingOf : Result Problem → Reading
+readingOf (refused r number) =
+    record { answer = record { number = numberOf r; line = number; bytes = 0; worth = 0; trials = 0 }; book = freshBook }
+readingOf (done b) =
+    record { answer = record { number = 0; line = 0; bytes = 0; worth = 0; trials = 0 }; book = bookValue b }
+
+-- ---- the settings and the book that a value holds: nothing of a book that was read is lost (proofs/ValueLaws, `book-kept`)
+
+-- setting c of a load's value, in t slots; Q is the reactive entry less 32,768
+abbrev pub settingIn : ℕ → Load → ℕ → Setting
+settingIn t l c =
+    record {
+      number = c;
+      worth = getD (l .worths) c 0;
+      powers = map (λ s. record { p = getD (l .actives) (4 * c + s) 0; q = subℕ (getD (l .reactives) (4 * c + s) 0) 32768 }) (upto t);
+    }
+
+abbrev pub settingsIn : ℕ → Load → Settings
+settingsIn t l = map (settingIn t l) (upto (l .settings))
+
+unfoldable pub problemOf : Book → Problem
+problemOf v =
+    record {
+      fineness = v .fineness;
+      budget = v .budget;
+      limits = take (v .slots) (v .limits);
+      loads = map (settingsIn (v .slots)) (take (v .count) (v .loads));
+    }

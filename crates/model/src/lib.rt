@@ -1,0 +1,149 @@
+// The declared types of the load planner. What a value of each says is defined in specs/.
+ghost use mathlib.Core.Path.{_≡_};
+ghost use Rattle.model.specs.Refusals.{numberOf, refused};
+ghost use Rattle.model.specs.Calls.{answerOf};
+ghost use Rattle.model.specs.Values.{loadValue, freshBook};
+ghost use mathlib.Core.List.{[]};
+
+// Why a call gives no result; specs/Refusals.antt has document 01's number and word of each.
+pub enum Refusal {
+    Unterminated,
+    NotHex,
+    WrongKind,
+    SlotsOrOptionsOutOfRange,
+    WrongLength,
+    LoadsOrFinenessOutOfRange,
+    ReactiveExceedsActive,
+    TrailingBytes,
+    TooManyCells,
+    WorkTooSmall,
+    BufferTooSmall,
+    BudgetExceeded,
+    ForeignSheet,
+}
+
+// What the table of refusals says of a line.
+pub enum Finding {
+    Passed,
+    Refused(Refusal),
+}
+
+// What a public call answers. Success has number 0 and line 0.
+#[repr(C)]
+pub struct Answer {
+    pub number: u64,
+    pub line: u64,
+    pub bytes: u64,
+    pub worth: u64,
+    pub trials: u64,
+}
+
+// What the sheet reader answers: the code of the sheet's choice after the rest.
+#[repr(C)]
+pub struct SheetAnswer {
+    pub number: u64,
+    pub line: u64,
+    pub bytes: u64,
+    pub worth: u64,
+    pub trials: u64,
+    pub code: u64,
+}
+
+// A load: standing is its setting 0, its options are the settings after that. Setting c has worths[c] and, in slot s,
+// the active power actives[4 c + s] and the reactive power reactives[4 c + s] - 32,768.
+pub struct Load {
+    pub settings: usize,
+    pub worths: [u64; 4],
+    pub actives: [u64; 16],
+    pub reactives: [u64; 16],
+}
+
+// A book that was read: the header's numbers and limits, and the loads in book order.
+pub struct Book {
+    pub slots: usize,
+    pub count: usize,
+    pub fineness: u64,
+    pub budget: u64,
+    pub limits: [u64; 4],
+    pub loads: [Load; 24],
+}
+
+// What the book reader answers; the book is a fresh one where the answer is a refusal.
+pub struct Reading {
+    pub answer: Answer,
+    pub book: Book,
+}
+
+impl Load {
+    pub fn fresh() -> Load
+        ensures { λ r. ⌜ r ≡ loadValue [] ⌝ }
+    {
+        Load {
+            settings: 0,
+            worths: [0; 4],
+            actives: [0; 16],
+            reactives: [32768; 16],
+        }
+    }
+}
+
+impl Book {
+    pub const SLOTS: usize = 4;
+
+    pub const LOADS: usize = 24;
+
+    pub const FINENESS: u64 = 64;
+
+    pub const OPTIONS: usize = 3;
+
+    pub fn fresh() -> Book
+        ensures { λ r. ⌜ r ≡ freshBook ⌝ }
+    {
+        let none = Load::fresh();
+        Book {
+            slots: 0,
+            count: 0,
+            fineness: 0,
+            budget: 0,
+            limits: [0; 4],
+            loads: [none; 24],
+        }
+    }
+}
+
+impl Refusal {
+    pub fn number(self) -> u64
+        ensures { λ r. ⌜ r ≡ numberOf self ⌝ }
+    {
+        match self {
+            Refusal::Unterminated => 1,
+            Refusal::NotHex => 2,
+            Refusal::WrongKind => 3,
+            Refusal::SlotsOrOptionsOutOfRange => 4,
+            Refusal::WrongLength => 5,
+            Refusal::LoadsOrFinenessOutOfRange => 6,
+            Refusal::ReactiveExceedsActive => 7,
+            Refusal::TrailingBytes => 8,
+            Refusal::TooManyCells => 9,
+            Refusal::WorkTooSmall => 10,
+            Refusal::BufferTooSmall => 11,
+            Refusal::BudgetExceeded => 12,
+            Refusal::ForeignSheet => 13,
+        }
+    }
+}
+
+impl Answer {
+    pub fn refusal(r: Refusal, line: u64) -> Answer
+        ensures { λ a. ⌜ a ≡ answerOf (refused r line) ⌝ }
+    {
+        let number = r.number();
+        Answer {
+            number,
+            line,
+            bytes: 0,
+            worth: 0,
+            trials: 0,
+        }
+    }
+}
