@@ -1,0 +1,26 @@
+-- `hex::is_digit` meets its contract: each way out decides both ranges. Assumes nothing.
+use borrow.Author.Tests.{le-leb, lt-leb}
+use Rattle.model.specs.Frames.{isDigit}
+use borrow.Author.Needs.{needs}
+use native.Mathlib.Omega.{arith}
+use Rattle.hex.proofs.is_digit.Statement.{statement}
+use Rattle.hex.proofs.is_digit.Tie as tie
+
+returns : tie.Need-returns
+unfolding isDigit
+returns c = simp (lt-leb 48 _ (c .if1 .taken), lt-leb 65 (c .before .args .b) (omega arith))
+
+returns-2 : tie.Need-returns-2
+unfolding isDigit
+returns-2 c = simp (le-leb 48 _ (c .before .if1 .left), le-leb _ 57 (c .if2 .taken))
+
+returns-3 : tie.Need-returns-3
+unfolding isDigit
+returns-3 c = simp (le-leb 48 _ (c .before .before .if1 .left), lt-leb _ 57 (c .before .if2 .left), lt-leb 65 _ (c .if3 .taken))
+
+returns-4 : tie.Need-returns-4
+unfolding isDigit
+returns-4 c = simp (le-leb 48 _ (c .before .before .if1 .left), lt-leb _ 57 (c .before .if2 .left), le-leb 65 _ (c .if3 .left))
+
+pub is-digit-spec : {M : Type 1} → statement M
+is-digit-spec = tie.close (tie.spec returns returns-2 returns-3 returns-4)

@@ -1,0 +1,90 @@
+-- Laws of tests and of the list functions of specs/Lists.antt.
+-- Assumes nothing.
+use mathlib.Core.Path.{_≡_, refl, sym, ap, _∙_, subst}
+use mathlib.Core.Logic.{_⊎_, inl, inr}
+use mathlib.Core.Bool.{Bool, true, false, cond, _&&_, _||_}
+use mathlib.Core.List.{List, [], _∷_, _++_, map}
+use lib.Dec.{T}
+use Rattle.model.specs.Lists.{Mem, Every, keep, keepIf, all}
+
+pub both : (t u : Bool) → T (t && u) → T t × T u
+both true true h = (tt, tt)
+both true false h = absurd h
+both false u h = absurd h
+
+pub each : (t u : Bool) → T t → T u → T (t && u)
+each true u a b = b
+each false u a b = absurd a
+
+pub bool-same : (t u : Bool) → (T t → T u) → (T u → T t) → t ≡ u
+bool-same true true f g = refl
+bool-same true false f g = absurd (f tt)
+bool-same false true f g = absurd (g tt)
+bool-same false false f g = refl
+
+module _ {A : Type 0} where
+  keepIf-append : (t : Bool) (x : A) (xs ys : List A) → keepIf t x xs ++ ys ≡ keepIf t x (xs ++ ys)
+  keepIf-append true x xs ys = refl
+  keepIf-append false x xs ys = refl
+
+  pub keep-append : (p : A → Bool) (xs ys : List A) → keep p (xs ++ ys) ≡ keep p xs ++ keep p ys
+  keep-append p [] ys = refl
+  keep-append p (x ∷ xs) ys = ap (keepIf (p x) x) (keep-append p xs ys) ∙ sym (keepIf-append (p x) x (keep p xs) (keep p ys))
+
+module _ {A B : Type 0} where
+  keepIf-map : (f : A → B) (t : Bool) (x : A) (xs : List A) → keepIf t (f x) (map f xs) ≡ map f (keepIf t x xs)
+  keepIf-map f true x xs = refl
+  keepIf-map f false x xs = refl
+
+  pub keep-map : (p : B → Bool) (f : A → B) (xs : List A) → keep p (map f xs) ≡ map f (keep (λ x. p (f x)) xs)
+  keep-map p f [] = refl
+  keep-map p f (x ∷ xs) = ap (keepIf (p (f x)) (f x)) (keep-map p f xs) ∙ keepIf-map f (p (f x)) x (keep (λ y. p (f y)) xs)
+
+  pub all-map : (p : B → Bool) (f : A → B) (xs : List A) → all p (map f xs) ≡ all (λ x. p (f x)) xs
+  all-map p f [] = refl
+  all-map p f (x ∷ xs) = ap (λ t. p (f x) && t) (all-map p f xs)
+
+-- ---- a property of every element
+
+module _ {A : Type 0} where
+  pub every-mem : (P : A → Type 0) (x : A) (xs : List A) → Mem x xs → Every P xs → P x
+  every-mem P x [] m h = absurd m
+  every-mem P x (y ∷ ys) (inl e) h = subst P (sym e) (h .0)
+  every-mem P x (y ∷ ys) (inr m) h = every-mem P x ys m (h .1)
+
+  pub every-of-mem : (P : A → Type 0) (xs : List A) → ((x : A) → Mem x xs → P x) → Every P xs
+  every-of-mem P [] f = tt
+  every-of-mem P (x ∷ xs) f = (f x (inl refl), every-of-mem P xs (λ y m. f y (inr m)))
+
+  pub every-keep : (P : A → Type 0) (p : A → Bool) (xs : List A) → Every P xs → Every (λ x. P x × T (p x)) (keep p xs)
+  every-keep P p [] h = tt
+  every-keep P p (x ∷ xs) h = go (p x) refl (every-keep P p xs (h .1))
+    where
+      go : (t : Bool) → p x ≡ t → Every (λ y. P y × T (p y)) (keep p xs) → Every (λ y. P y × T (p y)) (keepIf t x (keep p xs))
+      go true e rest = ((h .0, subst T (sym e) tt), rest)
+      go false e rest = rest
+
+  pub every-kept : (P : A → Type 0) (p : A → Bool) (xs : List A) → Every P (keep p xs) → Every (λ x. T (p x) → P x) xs
+  every-kept P p [] h = tt
+  every-kept P p (x ∷ xs) h = go (p x) h (every-kept P p xs)
+    where
+      go : (t : Bool) → Every P (keepIf t x (keep p xs)) → (Every P (keep p xs) → Every (λ y. T (p y) → P y) xs)
+          → (T t → P x) × Every (λ y. T (p y) → P y) xs
+      go true k rest = ((λ _. k .0), rest (k .1))
+      go false k rest = ((λ t. absurd t), rest k)
+
+  pub every-imp : (P Q : A → Type 0) → ((x : A) → P x → Q x) → (xs : List A) → Every P xs → Every Q xs
+  every-imp P Q f [] h = tt
+  every-imp P Q f (x ∷ xs) h = (f x (h .0), every-imp P Q f xs (h .1))
+
+  pub every-append : (P : A → Type 0) (xs ys : List A) → Every P xs → Every P ys → Every P (xs ++ ys)
+  every-append P [] ys a b = b
+  every-append P (x ∷ xs) ys a b = (a .0, every-append P xs ys (a .1) b)
+
+  pub every-left : (P : A → Type 0) (xs ys : List A) → Every P (xs ++ ys) → Every P xs
+  every-left P [] ys h = tt
+  every-left P (x ∷ xs) ys h = (h .0, every-left P xs ys (h .1))
+
+  pub every-right : (P : A → Type 0) (xs ys : List A) → Every P (xs ++ ys) → Every P ys
+  every-right P [] ys h = h
+  every-right P (x ∷ xs) ys h = every-right P xs ys (h .1)
