@@ -1,37 +1,33 @@
--- Frames: digits that are written are read back, a number of n digits is below 16^n, and a line lies within its bytes.
+-- Frames: digits that are written are read back, a number of n digits is below 16^n, one of 16 bits has |Q| ≤ 2^15, and a line lies within its
+-- bytes.
 -- Assumes nothing.
 use mathlib.Core.Path.{_≡_, refl, sym, ap, _∙_}
-use mathlib.Core.Bool.{Bool, true, false, cond, _&&_, false≢true}
+use mathlib.Core.Bool.{Bool, true, false, cond}
 use mathlib.Core.Logic.{_⊎_, inl, inr}
 use mathlib.Core.List.{List, [], _∷_, _++_}
 use Prim.Native.Nat.{ℕ, zero, suc, _+_, _*_, _-_, _/_, _%_, _^_, _<_, _≤_}
 use native.Mathlib.Nat.{pow-zero, pow-succ', mod-lt, mod-eq-of-lt, le-trans, mul-le-mul-right, pow-le-pow-right}
 use native.Mathlib.Omega.{arith}
 use lib.Arith.{mod-mul}
-use lib.Dec.{leb, ltb, eqb}
+use lib.Dec.{eqb}
+use lib.IntN.{natAbs}
 use lib.ListN.{length, take, drop, length-take}
 use lib.Seq.{take-at}
-use borrow.Author.Tests.{lt-ltb, le-ltb, le-leb, lt-leb, leb-true}
+use borrow.Author.Tests.{lt-ltb, le-ltb, le-leb, lt-leb}
 use Rattle.model.specs.Lists.{within}
-use Rattle.model.specs.Frames.{digit, digitValue, digits, valueFrom, field, lineLength}
-use Rattle.model.proofs.IntegerLaws.{split}
+use Rattle.model.specs.Frames.{digit, digitValue, digits, valueFrom, field, signed, lineLength}
+use Rattle.model.proofs.ListLaws.{within-is}
+use Rattle.model.proofs.IntegerLaws.{split, abs-sub}
 
 -- ---- one digit
-
-within-high : (lo hi b : ℕ) → within lo hi b ≡ true → b ≤ hi
-within-high lo hi b e = go (leb lo b) e
-  where
-    go : (t : Bool) → (t && leb b hi) ≡ true → b ≤ hi
-    go true q = leb-true b hi q
-    go false q = absurd (false≢true q)
 
 pub value-below : (b : ℕ) → digitValue b < 16
 unfolding digitValue
 value-below b = go (within 48 57 b) (within 65 70 b) refl refl
   where
     go : (t u : Bool) → within 48 57 b ≡ t → within 65 70 b ≡ u → cond t (b - 48) (cond u (b - 55) 0) < 16
-    go true u e f = omega (arith, within-high 48 57 b e)
-    go false true e f = omega (arith, within-high 65 70 b f)
+    go true u e f = omega (arith, within-is 48 57 b e .1)
+    go false true e f = omega (arith, within-is 65 70 b f .1)
     go false false e f = omega arith
 
 pub digit-back : (d : ℕ) → d < 16 → digitValue (digit d) ≡ d
@@ -107,6 +103,15 @@ field-back bytes rest at n y e h =
     ap (λ r. valueFrom 0 (take n r)) e
     ∙ ap (valueFrom 0) (take-at (digits n y) rest n (length-digits n y))
     ∙ value-back n y h
+
+-- 16 bits as two's complement
+pub signed-small : (x : ℕ) → x < 16 ^ 4 → natAbs (signed 16 x) ≤ 32768
+unfolding signed
+signed-small x h = go (split x (2 ^ 15))
+  where
+    go : (x < 2 ^ 15) ⊎ (2 ^ 15 ≤ x) → natAbs (signed 16 x) ≤ 32768
+    go (inl k) = simp (lt-ltb x (2 ^ 15) k) (omega arith)
+    go (inr k) = simp (le-ltb x (2 ^ 15) k) (omega (arith, abs-sub x (2 ^ 16)))
 
 -- ---- lines
 

@@ -1,4 +1,25 @@
 -- Laws about the definitions of specs/, by subject.
 pub mod ListLaws
+pub mod UptoLaws
 pub mod IntegerLaws
 pub mod FrameLaws
+pub mod RefusalLaws
+pub mod ChoiceLaws
+pub mod OrderLaws
+pub mod Squares
+pub mod AdmissionLaws
+pub mod Overload
+pub mod RecurrenceLaws
+pub mod PlanLaws
+pub mod CellLaws
+pub mod IndexLaws
+pub mod TableLaws
+pub mod LoopLaws
+pub mod RowLaws
+pub mod ReaderLaws
+pub mod SheetLaws
+pub mod CodeLaws
+pub mod QuickLaws
+pub mod DemandLaws
+pub mod ValueLaws
+pub mod Bench

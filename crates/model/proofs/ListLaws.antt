@@ -1,11 +1,16 @@
 -- Laws of tests and of the list functions of specs/Lists.antt.
 -- Assumes nothing.
-use mathlib.Core.Path.{_≡_, refl, sym, ap, _∙_, subst}
-use mathlib.Core.Logic.{_⊎_, inl, inr}
-use mathlib.Core.Bool.{Bool, true, false, cond, _&&_, _||_}
+use mathlib.Core.Path.{_≡_, refl, sym, ap, ap₂, _∙_, subst}
+use mathlib.Core.Logic.{inl, inr}
+use mathlib.Core.Bool.{Bool, true, false, _&&_, _||_, false≢true}
 use mathlib.Core.List.{List, [], _∷_, _++_, map}
-use lib.Dec.{T}
-use Rattle.model.specs.Lists.{Mem, Every, keep, keepIf, all}
+use Prim.Native.Nat.{ℕ, zero, suc, _*_, _<_, _≤_}
+use native.Mathlib.Nat.{le-of-suc-le-suc}
+use native.Mathlib.Omega.{arith}
+use lib.Dec.{T, leb, eqb}
+use lib.ListN.{length, getD, take, length-append}
+use borrow.Author.Tests.{leb-true, eqb-true, eq-eqb}
+use Rattle.model.specs.Lists.{within, Mem, Every, keep, keepIf, all, any, concat, sameLists}
 
 pub both : (t u : Bool) → T (t && u) → T t × T u
 both true true h = (tt, tt)
@@ -15,6 +20,19 @@ both false u h = absurd h
 pub each : (t u : Bool) → T t → T u → T (t && u)
 each true u a b = b
 each false u a b = absurd a
+
+pub both-true : (t u : Bool) → (t && u) ≡ true → (t ≡ true) × (u ≡ true)
+both-true true u e = (refl, e)
+both-true false u e = absurd (false≢true e)
+
+pub either-false : (t u : Bool) → (t || u) ≡ false → (t ≡ false) × (u ≡ false)
+either-false false u e = (refl, e)
+either-false true u e = absurd (false≢true (sym e))
+
+pub within-is : (lo hi x : ℕ) → within lo hi x ≡ true → (lo ≤ x) × (x ≤ hi)
+within-is lo hi x e =
+    let h : (leb lo x ≡ true) × (leb x hi ≡ true) = both-true (leb lo x) (leb x hi) e in
+    (leb-true lo x (h .0), leb-true x hi (h .1))
 
 pub bool-same : (t u : Bool) → (T t → T u) → (T u → T t) → t ≡ u
 bool-same true true f g = refl
@@ -30,6 +48,10 @@ module _ {A : Type 0} where
   pub keep-append : (p : A → Bool) (xs ys : List A) → keep p (xs ++ ys) ≡ keep p xs ++ keep p ys
   keep-append p [] ys = refl
   keep-append p (x ∷ xs) ys = ap (keepIf (p x) x) (keep-append p xs ys) ∙ sym (keepIf-append (p x) x (keep p xs) (keep p ys))
+
+  pub keep-same : (p q : A → Bool) (xs : List A) → Every (λ x. p x ≡ q x) xs → keep p xs ≡ keep q xs
+  keep-same p q [] h = refl
+  keep-same p q (x ∷ xs) h = ap₂ (λ t r. keepIf t x r) (h .0) (keep-same p q xs (h .1))
 
 module _ {A B : Type 0} where
   keepIf-map : (f : A → B) (t : Bool) (x : A) (xs : List A) → keepIf t (f x) (map f xs) ≡ map f (keepIf t x xs)
@@ -88,3 +110,54 @@ module _ {A : Type 0} where
   pub every-right : (P : A → Type 0) (xs ys : List A) → Every P (xs ++ ys) → Every P ys
   every-right P [] ys h = h
   every-right P (x ∷ xs) ys h = every-right P xs ys (h .1)
+
+  pub every-getD : (P : A → Type 0) (xs : List A) (d : A) → P d → Every P xs → (i : ℕ) → P (getD xs i d)
+  every-getD P [] d p h i = p
+  every-getD P (x ∷ xs) d p h zero = h .0
+  every-getD P (x ∷ xs) d p h (suc i) = every-getD P xs d p (h .1) i
+
+  pub every-at : (P : A → Type 0) (xs : List A) (d : A) → Every P xs → (i : ℕ) → i < length xs → P (getD xs i d)
+  every-at P [] d h i l = absurd (omega arith)
+  every-at P (x ∷ xs) d h zero l = h .0
+  every-at P (x ∷ xs) d h (suc i) l = every-at P xs d (h .1) i (le-of-suc-le-suc l)
+
+  pub every-all : (P : A → Type 0) (xs : List A) → ((x : A) → P x) → Every P xs
+  every-all P [] h = tt
+  every-all P (x ∷ xs) h = (h x, every-all P xs h)
+
+  pub every-take : (P : A → Type 0) (k : ℕ) (xs : List A) → Every P xs → Every P (take k xs)
+  every-take P zero xs h = tt
+  every-take P (suc k) [] h = tt
+  every-take P (suc k) (x ∷ xs) h = (h .0, every-take P k xs (h .1))
+
+  pub any-false : (p : A → Bool) (xs : List A) → any p xs ≡ false → Every (λ x. p x ≡ false) xs
+  any-false p [] e = tt
+  any-false p (x ∷ xs) e =
+      let h : (p x ≡ false) × (any p xs ≡ false) = either-false (p x) (any p xs) e in
+      (h .0, any-false p xs (h .1))
+
+module _ {A B : Type 0} where
+  pub every-map : (P : B → Type 0) (f : A → B) (xs : List A) → Every (λ x. P (f x)) xs → Every P (map f xs)
+  every-map P f [] h = tt
+  every-map P f (x ∷ xs) h = (h .0, every-map P f xs (h .1))
+
+  pub every-image : (P : B → Type 0) (f : A → B) (xs : List A) → ((x : A) → P (f x)) → Every P (map f xs)
+  every-image P f xs h = every-map P f xs (every-all (λ x. P (f x)) xs h)
+
+-- ---- lists one after the other, and lists compared
+
+pub length-concat : {A B : Type 0} (f : A → List B) (k : ℕ) → ((x : A) → length (f x) ≡ k) → (xs : List A) → length (concat (map f xs)) ≡ k * length xs
+length-concat f k h [] = omega arith
+length-concat f k h (x ∷ xs) = length-append (f x) (concat (map f xs)) ∙ (omega (arith, h x, length-concat f k h xs))
+
+pub same-eq : (xs ys : List ℕ) → sameLists eqb xs ys ≡ true → xs ≡ ys
+same-eq [] [] e = refl
+same-eq [] (y ∷ ys) e = absurd (false≢true e)
+same-eq (x ∷ xs) [] e = absurd (false≢true e)
+same-eq (x ∷ xs) (y ∷ ys) e =
+    let h : (eqb x y ≡ true) × (sameLists eqb xs ys ≡ true) = both-true (eqb x y) (sameLists eqb xs ys) e in
+    ap₂ {C = List ℕ} (λ z r. z ∷ r) (eqb-true x y (h .0)) (same-eq xs ys (h .1))
+
+pub same-refl : (xs : List ℕ) → sameLists eqb xs xs ≡ true
+same-refl [] = refl
+same-refl (x ∷ xs) = ap₂ _&&_ (eq-eqb x x refl) (same-refl xs)

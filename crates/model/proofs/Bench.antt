@@ -1,0 +1,80 @@
+-- Document 01's starred cases, as one table of facts about the definitions, with one statement covering it ("Trials at the bench").
+-- Assumes nothing.
+use mathlib.Core.Path.{_≡_, refl}
+use mathlib.Core.Bool.{Bool, true, false}
+use mathlib.Core.List.{List, [], _∷_}
+use Prim.Native.Nat.{ℕ}
+use Prim.Native.String.{String, [] as ε, _∷_ as _⸬_}
+use Prim.Native.Char.{code}
+use lib.Dec.{eqb}
+use lib.IntN.{ℤ, pos, negℤ}
+use Rattle.model.specs.Lists.{all, sameLists}
+use Rattle.model.specs.Frames.{isDigit, digitValue, digit, valueFrom, field, digits, signed, unsigned, lineLength}
+use Rattle.model.specs.Refusals.{Result, refused, done, first}
+use Rattle.model.specs.Book.{optionStart, headerRules, someExceeds, loadRules, readLoads, readBook}
+use Rattle.model.specs.Grid.{stepFor, slotsOf, floorDiv, bestAdmitted, plan}
+use Rattle.model.specs.Trials.{cells, sameℤ, reachedCount, trials}
+use Rattle.model.specs.Sheet.{numbersOf, firstLine, slotLine, slotLines, sheetBytes}
+use Rattle.model.specs.Calls.{sizeRules, fittingBook, planSheet, plannerResult}
+use Rattle.model.specs.Quick.{optionOne, sizeOf, takeIfFits, quickChoice, quickSheet, quickResult}
+use Rattle.model.specs.Program.{printed, programOutput}
+
+abbrev pub bytesOf : String → List ℕ
+bytesOf ε = []
+bytesOf (c ⸬ s) = code c ∷ bytesOf s
+
+-- a case of the bench
+pub data Case : Type 0 where
+  -- the program prints this for a book
+  prints : String → String → Case
+  -- the quick planner, printed in the same way
+  quickPrints : String → String → Case
+  -- the book is read
+  reads : String → Case
+  -- N, d and S have the step L
+  steps : ℕ → ℕ → ℕ → ℕ → Case
+  -- a power and a step L have a grid value
+  rounds : ℤ → ℕ → ℤ → Case
+
+abbrev pub isDone : {A : Type 0} → Result A → Bool
+isDone (refused r number) = false
+isDone (done x) = true
+
+unfoldable pub holds : Case → Bool
+holds (prints book out) = sameLists eqb (programOutput (bytesOf book)) (bytesOf out)
+holds (quickPrints book out) = sameLists eqb (printed (quickResult (bytesOf book) 4096)) (bytesOf out)
+holds (reads book) = isDone (readBook (bytesOf book))
+holds (steps n d s l) = eqb (stepFor n d s) l
+holds (rounds x l g) = sameℤ (floorDiv x l) g
+
+unfoldable pub bench : List Case
+bench =
+    prints "0101030400000064000A\n0201000500050005\n020100050004FFFC\n0201000400040000\n"
+    "040000000A0000000E010100\n050000000900000001000A\n"
+    ∷ steps 3 4 10 1
+    ∷ quickPrints "0101030400000064000A\n0201000500050005\n020100050004FFFC\n0201000400040000\n"
+    "040000000900000003000101\n0500000008FFFFFFFC000A\n"
+    ∷ prints "010103040000000E000A\n0201000500050005\n020100050004FFFC\n0201000400040000\n"
+    "040000000A0000000E010100\n050000000900000001000A\n"
+    ∷ prints "010103040000000D000A\n0201000500050005\n020100050004FFFC\n0201000400040000\n" "FF0C0000\n"
+    ∷ steps 3 4 23 1
+    ∷ steps 3 4 24 2
+    ∷ rounds (negℤ (pos 1)) 50 (negℤ (pos 1))
+    ∷ rounds (negℤ (pos 50)) 50 (negℤ (pos 1))
+    ∷ rounds (negℤ (pos 51)) 50 (negℤ (pos 2))
+    ∷ prints "01010201000000640064\n0201000300630000\n0201000300630000\n"
+    "0400000006000000060101\n05000000C6000000000064\n"
+    ∷ prints "01010201000000640064\n0201000300640000\n0201000300640000\n"
+    "0400000003000000060100\n0500000064000000000064\n"
+    ∷ prints "01010201000000640000\n0201000100000000\n0201000100010000\n"
+    "0400000001000000040100\n0500000000000000000000\n"
+    ∷ prints "" "FF010001\n"
+    ∷ reads "01010101000000640064\n020100010004FFFC\n"
+    ∷ prints "01010101000000640064\n020100010004FFFB\n" "FF070002\n"
+    ∷ []
+
+pub bench-holds : all holds bench ≡ true
+unfolding holds bench programOutput plannerResult planSheet fittingBook sizeRules
+    readBook readLoads headerRules loadRules someExceeds optionStart first isDigit digitValue digit valueFrom field digits signed unsigned lineLength
+    slotsOf plan bestAdmitted cells trials reachedCount sheetBytes firstLine slotLines slotLine numbersOf quickResult quickSheet quickChoice takeIfFits sizeOf optionOne
+bench-holds = refl

@@ -1,0 +1,229 @@
+-- Demand 3 of every sheet that the planner gives, for any number of slots and loads.
+-- Assumes nothing.
+use mathlib.Core.Path.{_≡_, refl, sym, ap, _∙_, subst}
+use mathlib.Core.List.{List, [], _∷_, _++_}
+use mathlib.Core.Option.{some}
+use Prim.Native.Nat.{ℕ, zero, suc, _+_, _*_, _-_, _^_, _/_, _<_, _≤_, max}
+use native.Mathlib.Nat.{le-trans, le-max-left, mul-le-mul-left, mul-le-mul-right, div-mul-le-self, div-lt-iff-lt-mul, mul-zero, add-zero, zero-add, le-of-suc-le-suc}
+use native.Mathlib.Decide.{decLe}
+use native.Mathlib.Omega.{arith}
+use lib.Dec.{leb, ltb, le→leb}
+use lib.Dec as Dec
+use lib.IntN.{ℤ, pos, natAbs, _+ℤ_}
+use lib.ListN.{length, getD, drop}
+use borrow.Author.Tests.{le-ltb}
+use Rattle.model.specs.declared.Refusal.the-variants.{BudgetExceeded}
+use Rattle.model.specs.declared.Finding.the-variants.{Passed}
+use Rattle.model.specs.Lists.{Mem, Every}
+use Rattle.model.specs.Refusals.{Result, refused, done, Rule, _⇒_, first, checked, andThen}
+use Rattle.model.specs.Book.{Setting, Settings, Problem, readBook, standing}
+use Rattle.model.specs.Choice.{Choice, IsChoice, worthOf, sumIn, square, apparentSquared}
+use Rattle.model.specs.Grid.{Slot, stepFor, slotsFrom, slotsOf, keepsLimits, gridIn, spreadOf, times, Admissible, admits, admitted, plan}
+use Rattle.model.specs.Trials.{cells, neededWords, trials}
+use Rattle.model.specs.Sheet.{Sheet, sheetOf, sheetBytes, sheetLength}
+use Rattle.model.specs.Calls.{answerOf, bufferAfter, sizeRules, fittingBook, choiceOr, planSheet, plannerResult}
+use Rattle.model.specs.Demand.{P²+Q², S, T, Demand3}
+use Rattle.model.proofs.ListLaws.{both, each, every-mem}
+use Rattle.model.proofs.UptoLaws.{suc-across}
+use Rattle.model.proofs.RefusalLaws.{done-same, checked-done, then-done, NoneApplies, first-passed, first-none, number-some}
+use Rattle.model.proofs.ChoiceLaws.{choice-every, worth-most}
+use Rattle.model.proofs.AdmissionLaws.{square-abs, abs-offset, of-admits, Rounded, rounded-choice}
+use Rattle.model.proofs.PlanLaws.{plan-sound, plan-worth, chosen-length}
+use Rattle.model.proofs.ReaderLaws.{SettingSmall, GoodBook, book-good, plan-some}
+use Rattle.model.proofs.SheetLaws.{worth-on, numbers-on, numbers-small}
+use Rattle.model.proofs.Squares.{sq-mono}
+use Rattle.model.proofs.Overload as Overload
+
+-- ---- slots by their number
+
+abbrev slotAt : ℕ → ℕ → ℕ → ℕ → Slot
+slotAt n d i s = record { place = i; limit = s; step = stepFor n d s; loads = n }
+
+keeps-all : (n d i : ℕ) (ss : List ℕ) (c : Choice)
+    → ((k : ℕ) → k < length ss → apparentSquared (sumIn (i + k) c) ≤ square (getD ss k 0)) → Dec.T (keepsLimits (slotsFrom n d i ss) c)
+keeps-all n d i [] c h = tt
+keeps-all n d i (s ∷ ss) c h =
+    each (leb (apparentSquared (sumIn i c)) (square s)) (keepsLimits (slotsFrom n d (suc i) ss) c)
+    (le→leb _ _ (subst (λ j. apparentSquared (sumIn j c) ≤ square s) (add-zero i) (h 0 (omega arith))))
+    (keeps-all n d (suc i) ss c (λ k l. subst (λ j. apparentSquared (sumIn j c) ≤ square (getD ss k 0)) (suc-across i k) (h (suc k) (omega arith))))
+
+admitted-at : (n d i : ℕ) (ss : List ℕ) (c : Choice) → Dec.T (admitted (slotsFrom n d i ss) c)
+    → (k : ℕ) → k < length ss → Dec.T (admits (slotAt n d (i + k) (getD ss k 0)) (gridIn (slotAt n d (i + k) (getD ss k 0)) c))
+admitted-at n d i [] c t k l = absurd (omega arith)
+admitted-at n d i (s ∷ ss) c t zero l =
+    subst (λ j. Dec.T (admits (slotAt n d j s) (gridIn (slotAt n d j s) c))) (sym (add-zero i))
+    (both (admits (slotAt n d i s) (gridIn (slotAt n d i s) c)) (admitted (slotsFrom n d (suc i) ss) c) t .0)
+admitted-at n d i (s ∷ ss) c t (suc k) l =
+    subst (λ j. Dec.T (admits (slotAt n d j (getD ss k 0)) (gridIn (slotAt n d j (getD ss k 0)) c))) (sym (suc-across i k))
+    (admitted-at n d (suc i) ss c (both (admits (slotAt n d i s) (gridIn (slotAt n d i s) c)) (admitted (slotsFrom n d (suc i) ss) c) t .1) k (le-of-suc-le-suc l))
+
+-- ---- one admitted slot
+
+-- a power on the same grid point as another, each at most e above it
+abs-near : (b : ℤ) (l e i j : ℕ) → i ≤ e → j ≤ e → natAbs (times b l +ℤ pos i) ≤ natAbs (times b l +ℤ pos j) + e
+abs-near b l e i j hi hj = omega (arith, abs-offset b l i, abs-offset b l j)
+
+-- the true sums P, |Q| lie at most e above a pair p, |q| that keeps the limit
+record Near (P Q e S : ℕ) : Type 0 where
+  pub p : ℕ
+  pub q : ℕ
+  pub p-near : P ≤ p + e
+  pub q-near : Q ≤ q + e
+  pub keeps : p * p + q * q ≤ S * S
+
+near : (s : Slot) (c : Choice) → 0 < s .step → length c ≤ s .loads → Dec.T (admits s (gridIn s c))
+    → Near (sumIn (s .place) c .p) (natAbs (sumIn (s .place) c .q)) (spreadOf s) (s .limit)
+near s c h n t =
+    let a : Admissible s (gridIn s c) = of-admits s (gridIn s c) t in
+    let r : Rounded (s .step) (length c * (s .step - 1)) (sumIn (s .place) c) (gridIn s c) = rounded-choice s h c in
+    let w : length c * (s .step - 1) ≤ spreadOf s = mul-le-mul-right (s .step - 1) n in
+    let z : ℤ = times (gridIn s c .q) (s .step) +ℤ pos (a .j) in
+    record {
+      p = gridIn s c .p * s .step + a .i;
+      q = natAbs z;
+      p-near = omega (arith, r .p-is, le-trans (r .i-fits) w);
+      q-near =
+          subst (λ x. natAbs x ≤ natAbs z + spreadOf s) (sym (r .q-is))
+          (abs-near (gridIn s c .q) (s .step) (spreadOf s) (r .j) (a .j) (le-trans (r .j-fits) w) (a .j-fits));
+      keeps = subst (λ m. square (gridIn s c .p * s .step + a .i) + m ≤ square (s .limit)) (square-abs z) (a .inside);
+    }
+
+-- d e ≤ S, and e is 0 where S < 2 N d
+spread-small : (n d i s : ℕ) → d * spreadOf (slotAt n d i s) ≤ s
+spread-small n d i s = go (decLe (s / (n * d)) 1)
+  where
+    go : Dec (s / (n * d) ≤ 1) → d * (n * (max 1 (s / (n * d)) - 1)) ≤ s
+    go (yes h) =
+        let z : max 1 (s / (n * d)) - 1 ≡ 0 = omega arith in
+        rw (z, mul-zero, mul-zero) (omega arith)
+    go (no h) =
+        let z : max 1 (s / (n * d)) - 1 ≤ s / (n * d) = omega arith in
+        omega (arith, div-mul-le-self s (n * d), mul-le-mul-left (n * d) z)
+
+spread-zero : (n d i s : ℕ) → s < 2 * (n * d) → spreadOf (slotAt n d i s) ≡ 0
+spread-zero n d i s h =
+    let l : s / (n * d) < 2 = div-lt-iff-lt-mul {k = n * d} (omega arith) .1 h in
+    let z : max 1 (s / (n * d)) - 1 ≡ 0 = omega arith in
+    rw (z, mul-zero)
+
+module _ (n d i s : ℕ) (c : Choice) (few : length c ≤ n) (t : Dec.T (admits (slotAt n d i s) (gridIn (slotAt n d i s) c))) where
+  here : Near (sumIn i c .p) (natAbs (sumIn i c .q)) (spreadOf (slotAt n d i s)) s
+  here = near (slotAt n d i s) c (le-max-left 1 (s / (n * d))) few t
+
+  as-squares : P²+Q² i c ≡ sumIn i c .p * sumIn i c .p + natAbs (sumIn i c .q) * natAbs (sumIn i c .q)
+  as-squares = ap (λ m. square (sumIn i c .p) + m) (square-abs (sumIn i c .q))
+
+  slot-overload : square d * P²+Q² i c ≤ square (d + 2) * square s
+  slot-overload =
+      subst (λ m. square d * m ≤ square (d + 2) * square s) (sym as-squares)
+      (Overload.overload (sumIn i c .p) (natAbs (sumIn i c .q)) (here .p) (here .q) (spreadOf (slotAt n d i s)) (here .p-near) (here .q-near)
+      d s (spread-small n d i s) (here .keeps))
+
+  slot-exact : s < 2 * (n * d) → P²+Q² i c ≤ square s
+  slot-exact h =
+      let z : spreadOf (slotAt n d i s) ≡ 0 = spread-zero n d i s h in
+      let x : sumIn i c .p ≤ here .p = omega (arith, here .p-near) in
+      let y : natAbs (sumIn i c .q) ≤ here .q = omega (arith, here .q-near) in
+      subst (λ m. m ≤ square s) (sym as-squares) (omega (arith, sq-mono x, sq-mono y, here .keeps))
+
+-- ---- the call
+
+-- the worth stands whole on the sheet
+worth-small : (b : Problem) (c : Choice) → GoodBook b → IsChoice (b .loads) c → worthOf c < 16 ^ 8
+worth-small b c g m =
+    let each-low : Every (λ v. v .worth ≤ 65535) c = choice-every (Every SettingSmall) (λ v. v .worth ≤ 65535) low (b .loads) c (g .good .small) m in
+    omega (arith, chosen-length (b .loads) c m, worth-most 65535 c each-low)
+  where
+    below : (v : Setting) → SettingSmall v → v .worth ≤ 65535
+    below v s = omega (arith, s .worth)
+
+    low : (vs : Settings) (v : Setting) → Every SettingSmall vs → Mem v vs → v .worth ≤ 65535
+    low vs v h k = below v (every-mem SettingSmall v vs k h)
+
+pub sheet-demand3 : (book : List ℕ) (b : Problem) (c : Choice) (t : ℕ) (past : List ℕ) → readBook book ≡ done b → plan b ≡ some c
+    → Demand3 book (sheetBytes b c t ++ past)
+unfolding plan slotsOf
+sheet-demand3 book b c t past e p =
+    let good : GoodBook b = book-good book b e in
+    let sound : IsChoice (b .loads) c × Dec.T (admitted (slotsOf b) c) = plan-sound (slotsOf b) (b .loads) c p in
+    let len : length c ≡ length (b .loads) = chosen-length (b .loads) c (sound .0) in
+    let few : length c ≤ length (b .loads) = omega arith in
+    record {
+      b = b;
+      reads = e;
+      choice = c;
+      on-sheet = record {
+        of-book = sound .0;
+        numbers = λ k l.
+            numbers-on b c t (sheetBytes b c t ++ past) past refl (numbers-small (b .loads) c (good .good .labels) (sound .0)) (standing (T b)) k (omega arith);
+        worth = worth-on b c t (sheetBytes b c t ++ past) past refl (worth-small b c good (sound .0));
+      };
+      worth = λ other m h.
+          plan-worth b c p other m
+          (keeps-all (length (b .loads)) (b .fineness) 0 (b .limits) other
+          (λ k l. subst (λ j. apparentSquared (sumIn j other) ≤ square (getD (b .limits) k 0)) (sym (zero-add k)) (h k l)));
+      overload = λ slot l. slot-overload (length (b .loads)) (b .fineness) slot (S b slot) c few (at sound slot l);
+      exact = λ slot l small. slot-exact (length (b .loads)) (b .fineness) slot (S b slot) c few (at sound slot l) small;
+    }
+  where
+    at : IsChoice (b .loads) c × Dec.T (admitted (slotsOf b) c) → (slot : ℕ) → slot < T b
+        → Dec.T (admits (slotAt (length (b .loads)) (b .fineness) slot (S b slot)) (gridIn (slotAt (length (b .loads)) (b .fineness) slot (S b slot)) c))
+    at sound slot l =
+        subst (λ j. Dec.T (admits (slotAt (length (b .loads)) (b .fineness) j (S b slot)) (gridIn (slotAt (length (b .loads)) (b .fineness) j (S b slot)) c))) (zero-add slot)
+        (admitted-at (length (b .loads)) (b .fineness) 0 (b .limits) c (sound .1) slot l)
+
+-- a book that fits was read
+pub fitting-read : (book : List ℕ) (words room : ℕ) (b : Problem) → fittingBook book words room ≡ done b
+    → (readBook book ≡ done b) × NoneApplies (sizeRules b words room)
+unfolding fittingBook
+fitting-read book words room b e =
+    let sized : Problem → Result Problem = λ a. checked 0 (first (sizeRules a words room)) (done a) in
+    let y : (a : Problem) × (readBook book ≡ done a) × (sized a ≡ done b) = then-done (readBook book) sized b e in
+    let z : (first (sizeRules (y .0) words room) ≡ Passed) × (Path (Result Problem) (done (y .0)) (done b))
+    = checked-done 0 (first (sizeRules (y .0) words room)) (done (y .0)) b (y .2) in
+    let same : y .0 ≡ b = done-same (y .0) b (z .1) in
+    (y .1 ∙ z .1, first-passed (sizeRules b words room) (subst (λ (a : Problem). first (sizeRules a words room) ≡ Passed) same (z .0)))
+
+-- the rule that follows the search
+abbrev spent : Problem → List Rule
+spent b = (ltb (b .budget) (trials b) ⇒ BudgetExceeded) ∷ []
+
+-- what a sheet of the planner is
+pub planned-sheet : (book : List ℕ) (words room : ℕ) (s : Sheet) → plannerResult book words room ≡ done s
+    → (b : Problem) × (c : Choice) × (readBook book ≡ done b) × (plan b ≡ some c) × (s ≡ sheetOf b c (trials b))
+unfolding plannerResult planSheet
+planned-sheet book words room s e =
+    let x : (b : Problem) × (fittingBook book words room ≡ done b) × (planSheet b ≡ done s) = then-done (fittingBook book words room) planSheet s e in
+    let b : Problem = x .0 in
+    let reads : readBook book ≡ done b = fitting-read book words room b (x .1) .0 in
+    let d : (c : Choice) × (plan b ≡ some c) = plan-some book b reads in
+    let w : sheetOf b (choiceOr (plan b)) (trials b) ≡ s
+    = done-same (sheetOf b (choiceOr (plan b)) (trials b)) s
+    (checked-done 0 (first (spent b)) (done (sheetOf b (choiceOr (plan b)) (trials b))) s (x .2) .1) in
+    (b, d .0, reads, d .1, sym w ∙ ap (λ m. sheetOf b (choiceOr m) (trials b)) (d .1))
+
+-- DEMAND 3 of the call: whenever the answer has number 0
+pub demand3 : (book : List ℕ) (words : ℕ) (before : List ℕ) → answerOf (plannerResult book words (length before)) .number ≡ 0
+    → Demand3 book (bufferAfter (plannerResult book words (length before)) before)
+demand3 book words before e = go (plannerResult book words (length before)) refl e
+  where
+    go : (r : Result Sheet) → plannerResult book words (length before) ≡ r → answerOf r .number ≡ 0 → Demand3 book (bufferAfter r before)
+    go (refused r number) q z = absurd (number-some r z)
+    go (done s) q z =
+        let x : (b : Problem) × (c : Choice) × (readBook book ≡ done b) × (plan b ≡ some c) × (s ≡ sheetOf b c (trials b))
+        = planned-sheet book words (length before) s q in
+        subst (λ (y : Sheet). Demand3 book (bufferAfter (done y) before)) (sym (x .4))
+        (sheet-demand3 book (x .0) (x .1) (trials (x .0)) (drop (length (sheetBytes (x .0) (x .1) (trials (x .0)))) before) (x .2) (x .3))
+
+-- "The planner answers a book with a sheet whenever no refusal applies": none of 1 to 8, and none of 9 to 12
+pub answers : (book : List ℕ) (words room : ℕ) (b : Problem) → readBook book ≡ done b
+    → cells b ≤ 1_048_576 → neededWords b ≤ words → sheetLength b ≤ room → trials b ≤ b .budget
+    → answerOf (plannerResult book words room) .number ≡ 0
+unfolding plannerResult fittingBook planSheet sizeRules
+answers book words room b e few wide long enough =
+    ap (λ x. answerOf (andThen (andThen x (λ a. checked 0 (first (sizeRules a words room)) (done a))) planSheet) .number) e
+    ∙ ap (λ f. answerOf (andThen (checked 0 f (done b)) planSheet) .number)
+    (first-none (sizeRules b words room)
+    (le-ltb 1_048_576 (cells b) few, (le-ltb words (neededWords b) wide, (le-ltb room (sheetLength b) long, tt))))
+    ∙ ap (λ f. answerOf (checked 0 f (done (sheetOf b (choiceOr (plan b)) (trials b)))) .number)
+    (first-none (spent b) (le-ltb (b .budget) (trials b) enough, tt))

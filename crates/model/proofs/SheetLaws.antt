@@ -1,0 +1,233 @@
+-- The sheet's length and fields, and the sheet reader: it accepts exactly the sheets that some choice and some trials below 2^32 give.
+-- Assumes nothing.
+use mathlib.Core.Path.{_≡_, refl, sym, ap, ap₂, _∙_, subst}
+use mathlib.Core.Bool.{Bool, true, false, cond, not}
+use mathlib.Core.Logic.{_⊎_, inl, inr}
+use mathlib.Core.List.{List, [], _∷_, _++_, append-assoc, append-nil}
+use mathlib.Core.Option.{Option, none, some, Option·none-ne-some, Option·some-injective}
+use Prim.Native.Nat.{ℕ, zero, suc, _+_, _*_, _^_, _<_, _≤_}
+use native.Mathlib.Nat.{add-zero, zero-add, le-of-suc-le-suc}
+use native.Mathlib.Omega.{arith}
+use lib.Dec.{eqb}
+use lib.ListN.{length, length-append, getD, drop}
+use lib.Seq.{drop-at, drop-drop}
+use borrow.Author.Tests.{eq-eqb, ne-eqb, not-false}
+use Rattle.model.specs.declared.Refusal.the-variants.{ForeignSheet}
+use Rattle.model.specs.declared.Finding.the-variants.{Passed}
+use Rattle.model.specs.Lists.{Mem, Every, sameLists}
+use Rattle.model.specs.Frames.{digits, field}
+use Rattle.model.specs.Refusals.{Result, done, Rule, _⇒_, first, checked, andThen}
+use Rattle.model.specs.Book.{Power, Setting, Settings, Problem, readBook}
+use Rattle.model.specs.Choice.{Choice, IsChoice, worthOf, codeOf, sumIn}
+use Rattle.model.specs.Grid.{Slot, slotsFrom, slotsOf}
+use Rattle.model.specs.Sheet.{lf, numbersOf, firstLine, slotLine, slotLines, sheetBytes, sheetLength}
+use Rattle.model.specs.Quick.{noSetting}
+use Rattle.model.specs.SheetReader.{SheetOf, SheetData, settingNumbered, consBoth, choiceFrom, trialsOn, readAs, sheetData, readerResult}
+use Rattle.model.proofs.ListLaws.{length-concat, same-eq, same-refl}
+use Rattle.model.proofs.FrameLaws.{length-digits, field-back, field-below}
+use Rattle.model.proofs.RefusalLaws.{refused-done, done-same, checked-done, first-passed, first-none}
+use Rattle.model.proofs.ChoiceLaws.{choice-every}
+use Rattle.model.proofs.ReaderLaws.{Numbered, Labelled, book-good}
+
+-- ---- the length
+
+pub length-slots : (b : Problem) → length (slotsOf b) ≡ length (b .limits)
+unfolding slotsOf
+length-slots b = go (length (b .loads)) (b .fineness) 0 (b .limits)
+  where
+    go : (n d i : ℕ) (ss : List ℕ) → length (slotsFrom n d i ss) ≡ length ss
+    go n d i [] = refl
+    go n d i (s ∷ ss) = ap suc (go n d (suc i) ss)
+
+length-numbers : (c : Choice) → length (numbersOf c) ≡ 2 * length c
+unfolding numbersOf
+length-numbers c = length-concat (λ v. digits 2 (v .number)) 2 (λ v. length-digits 2 (v .number)) c
+
+pub length-first : (c : Choice) (t : ℕ) → length (firstLine c t) ≡ 19 + 2 * length c
+unfolding firstLine
+length-first c t = simp (length-append, length-digits, length-numbers) (omega arith)
+
+pub length-slot : (limit : ℕ) (x : Power) → length (slotLine limit x) ≡ 23
+unfolding slotLine
+length-slot limit x = simp (length-append, length-digits) (omega arith)
+
+pub length-slot-lines : (slots : List Slot) (c : Choice) → length (slotLines slots c) ≡ 23 * length slots
+unfolding slotLines
+length-slot-lines slots c =
+    length-concat (λ (s : Slot). slotLine (s .limit) (sumIn (s .place) c)) 23 (λ s. length-slot (s .limit) (sumIn (s .place) c)) slots
+
+pub sheet-length : (b : Problem) (c : Choice) (t : ℕ) → length c ≡ length (b .loads) → length (sheetBytes b c t) ≡ sheetLength b
+unfolding sheetBytes
+sheet-length b c t e =
+    length-append (firstLine c t) (slotLines (slotsOf b) c)
+    ∙ (omega (arith, length-first c t, length-slot-lines (slotsOf b) c, length-slots b))
+
+-- ---- the fields of the first line
+
+-- what stands before and after the numbers of a choice
+abbrev starting : Choice → ℕ → List ℕ → List ℕ
+starting c t rest = digits 2 4 ++ (digits 8 (worthOf c) ++ (digits 8 t ++ (numbersOf c ++ rest)))
+
+sheet-starts : (b : Problem) (c : Choice) (t : ℕ) (past : List ℕ) → sheetBytes b c t ++ past ≡ starting c t (lf ++ (slotLines (slotsOf b) c ++ past))
+unfolding sheetBytes firstLine
+sheet-starts b c t past = simp append-assoc
+
+two-on : (i k : ℕ) → 18 + 2 * (i + suc k) ≡ 18 + 2 * (suc i + k)
+two-on i k = omega arith
+
+two-more : (i : ℕ) → 18 + 2 * suc i ≡ 18 + 2 * i + 2
+two-more i = omega arith
+
+numbers-at : (bytes rest : List ℕ) (i : ℕ) (c : Choice) (u : Setting) → Every (λ v. v .number < 4) c → drop (18 + 2 * i) bytes ≡ numbersOf c ++ rest
+    → (k : ℕ) → k < length c → field bytes (18 + 2 * (i + k)) 2 ≡ getD c k u .number
+unfolding numbersOf
+numbers-at bytes rest i [] u h e k l = absurd (omega arith)
+numbers-at bytes rest i (v ∷ c) u h e zero l =
+    ap (λ j. field bytes (18 + 2 * j) 2) (add-zero i)
+    ∙ field-back bytes (numbersOf c ++ rest) (18 + 2 * i) 2 (v .number) (e ∙ append-assoc (digits 2 (v .number)) (numbersOf c) rest) (omega (arith, h .0))
+numbers-at bytes rest i (v ∷ c) u h e (suc k) l =
+    ap (λ j. field bytes j 2) (two-on i k)
+    ∙ numbers-at bytes rest (suc i) c u (h .1)
+    (ap (λ j. drop j bytes) (two-more i)
+    ∙ sym (drop-drop 2 (18 + 2 * i) bytes)
+    ∙ ap (drop 2) (e ∙ append-assoc (digits 2 (v .number)) (numbersOf c) rest)
+    ∙ drop-at (digits 2 (v .number)) (numbersOf c ++ rest) 2 (length-digits 2 (v .number)))
+    k (le-of-suc-le-suc l)
+
+module _ (b : Problem) (c : Choice) (t : ℕ) (bytes past : List ℕ) (e : bytes ≡ sheetBytes b c t ++ past) where
+  rest : List ℕ
+  rest = lf ++ (slotLines (slotsOf b) c ++ past)
+
+  at-worth : drop 2 bytes ≡ digits 8 (worthOf c) ++ (digits 8 t ++ (numbersOf c ++ rest))
+  unfolding rest
+  at-worth = ap (drop 2) (e ∙ sheet-starts b c t past) ∙ drop-at (digits 2 4) (digits 8 (worthOf c) ++ (digits 8 t ++ (numbersOf c ++ rest))) 2 (length-digits 2 4)
+
+  at-trials : drop 10 bytes ≡ digits 8 t ++ (numbersOf c ++ rest)
+  at-trials =
+      sym (drop-drop 8 2 bytes)
+      ∙ ap (drop 8) at-worth
+      ∙ drop-at (digits 8 (worthOf c)) (digits 8 t ++ (numbersOf c ++ rest)) 8 (length-digits 8 (worthOf c))
+
+  at-numbers : drop 18 bytes ≡ numbersOf c ++ rest
+  at-numbers = sym (drop-drop 8 10 bytes) ∙ ap (drop 8) at-trials ∙ drop-at (digits 8 t) (numbersOf c ++ rest) 8 (length-digits 8 t)
+
+  pub worth-on : worthOf c < 16 ^ 8 → field bytes 2 8 ≡ worthOf c
+  worth-on h = field-back bytes (digits 8 t ++ (numbersOf c ++ rest)) 2 8 (worthOf c) at-worth h
+
+  pub trials-on : t < 16 ^ 8 → field bytes 10 8 ≡ t
+  trials-on h = field-back bytes (numbersOf c ++ rest) 10 8 t at-trials h
+
+  pub numbers-on : Every (λ v. v .number < 4) c → (u : Setting) (k : ℕ) → k < length c → field bytes (18 + 2 * k) 2 ≡ getD c k u .number
+  numbers-on h u k l = ap (λ j. field bytes (18 + 2 * j) 2) (sym (zero-add k)) ∙ numbers-at bytes rest 0 c u h at-numbers k l
+
+-- ---- the setting with a number
+
+number-from : (i : ℕ) (vs : Settings) (v : Setting) → Numbered i vs → Mem v vs → (i ≤ v .number) × (v .number < i + length vs)
+number-from i [] v h m = absurd m
+number-from i (u ∷ vs) v h (inl e) = (omega (arith, h .0, ap (λ (x : Setting). x .number) e), omega (arith, h .0, ap (λ (x : Setting). x .number) e))
+number-from i (u ∷ vs) v h (inr m) =
+    let k : (suc i ≤ v .number) × (v .number < suc i + length vs) = number-from (suc i) vs v (h .1) m in
+    (omega (arith, k .0), omega (arith, k .1))
+
+pub number-small : (vs : Settings) (v : Setting) → Labelled vs → Mem v vs → v .number < 4
+number-small vs v h m = omega (arith, number-from 0 vs v (h .numbered) m .1)
+
+pub numbers-small : (loads : List Settings) (c : Choice) → Every Labelled loads → IsChoice loads c → Every (λ v. v .number < 4) c
+numbers-small loads c h m = choice-every Labelled (λ v. v .number < 4) number-small loads c h m
+
+pub found : (i : ℕ) (vs : Settings) (v : Setting) → Numbered i vs → Mem v vs → settingNumbered (v .number) vs ≡ some v
+found i [] v h m = absurd m
+found i (u ∷ vs) v h (inl e) =
+    ap (λ t. cond t (some u) (settingNumbered (v .number) vs)) (eq-eqb (u .number) (v .number) (ap (λ (x : Setting). x .number) (sym e)))
+    ∙ ap {B = Option Setting} some (sym e)
+found i (u ∷ vs) v h (inr m) =
+    ap (λ t. cond t (some u) (settingNumbered (v .number) vs)) (ne-eqb (u .number) (v .number) (λ e. omega (arith, e, h .0, number-from (suc i) vs v (h .1) m .0)))
+    ∙ found (suc i) vs v (h .1) m
+
+found-mem : (n : ℕ) (vs : Settings) (v : Setting) → settingNumbered n vs ≡ some v → Mem v vs
+found-mem n [] v e = absurd (Option·none-ne-some v e)
+found-mem n (u ∷ vs) v e = go (eqb (u .number) n) e (found-mem n vs v)
+  where
+    go : (t : Bool) → cond t (some u) (settingNumbered n vs) ≡ some v → (settingNumbered n vs ≡ some v → Mem v vs) → (v ≡ u) ⊎ Mem v vs
+    go true q rest = inl (sym (Option·some-injective u v q))
+    go false q rest = inr (rest q)
+
+-- ---- the choice on a sheet
+
+choice-is : (bytes : List ℕ) (k : ℕ) (loads : List Settings) (c : Choice) → choiceFrom bytes k loads ≡ some c → IsChoice loads c
+choice-is bytes k [] c e = subst (IsChoice []) (Option·some-injective [] c e) tt
+choice-is bytes k (vs ∷ loads) c e =
+    go (settingNumbered (field bytes (18 + 2 * k) 2) vs) refl (choiceFrom bytes (suc k) loads) refl e (choice-is bytes (suc k) loads)
+  where
+    go : (x : Option Setting) → settingNumbered (field bytes (18 + 2 * k) 2) vs ≡ x → (y : Option Choice) → choiceFrom bytes (suc k) loads ≡ y
+        → consBoth x y ≡ some c → ((d : Choice) → choiceFrom bytes (suc k) loads ≡ some d → IsChoice loads d) → IsChoice (vs ∷ loads) c
+    go none p y q e rest = absurd (Option·none-ne-some c e)
+    go (some v) p none q e rest = absurd (Option·none-ne-some c e)
+    go (some v) p (some d) q e rest =
+        subst (IsChoice (vs ∷ loads)) (Option·some-injective (v ∷ d) c e) (found-mem (field bytes (18 + 2 * k) 2) vs v p, rest d q)
+
+choice-back : (bytes : List ℕ) (k : ℕ) (loads : List Settings) (c : Choice) → IsChoice loads c → Every Labelled loads
+    → ((j : ℕ) → j < length c → field bytes (18 + 2 * (k + j)) 2 ≡ getD c j noSetting .number) → choiceFrom bytes k loads ≡ some c
+choice-back bytes k [] [] m h e = refl
+choice-back bytes k [] (v ∷ c) m h e = absurd m
+choice-back bytes k (vs ∷ loads) [] m h e = absurd m
+choice-back bytes k (vs ∷ loads) (v ∷ c) m h e =
+    ap₂ consBoth
+    (ap (λ n. settingNumbered n vs) (ap (λ i. field bytes (18 + 2 * i) 2) (sym (add-zero k)) ∙ e 0 (omega arith))
+    ∙ found 0 vs v (h .0 .numbered) (m .0))
+    (choice-back bytes (suc k) loads c (m .1) (h .1)
+    (λ j l. ap (λ i. field bytes i 2) (sym (two-on k j)) ∙ e (suc j) (omega arith)))
+
+-- ---- the sheet reader
+
+abbrev pub dataOf : Choice → ℕ → SheetData
+dataOf c t = record { code = codeOf c; worth = worthOf c; trials = t }
+
+-- the rule that the reader tries, for a choice and trials
+abbrev foreign : Problem → List ℕ → Choice → ℕ → List Rule
+foreign b sheet c t = (not (sameLists eqb sheet (sheetBytes b c t)) ⇒ ForeignSheet) ∷ []
+
+module _ (book sheet : List ℕ) (b : Problem) (e : readBook book ≡ done b) where
+  read-one : readerResult book sheet ≡ readAs sheet b (choiceFrom sheet 0 (b .loads))
+  unfolding readerResult sheetData
+  read-one = ap (λ x. andThen x (sheetData sheet)) e
+
+  -- every sheet of the book is read, with its choice's code and worth and its trials
+  pub reader-accepts : (s : SheetOf b sheet) → readerResult book sheet ≡ done (dataOf (s .choice) (s .trials))
+  reader-accepts s =
+      read-one
+      ∙ ap (readAs sheet b)
+      (choice-back sheet 0 (b .loads) (s .choice) (s .of-book) labels
+      (λ j l. ap (λ i. field sheet (18 + 2 * i) 2) (zero-add j)
+      ∙ numbers-on b (s .choice) (s .trials) sheet [] plain (numbers-small (b .loads) (s .choice) labels (s .of-book)) noSetting j l))
+      ∙ ap (λ n. checked 0 (first (foreign b sheet (s .choice) n)) (done (dataOf (s .choice) n))) (trials-on b (s .choice) (s .trials) sheet [] plain (s .bound))
+      ∙ ap (λ f. checked 0 f (done (dataOf (s .choice) (s .trials)))) (first-none (foreign b sheet (s .choice) (s .trials)) (ap not own, tt))
+    where
+      labels : Every Labelled (b .loads)
+      labels = book-good book b e .good .labels
+
+      plain : sheet ≡ sheetBytes b (s .choice) (s .trials) ++ []
+      plain = s .bytes ∙ sym (append-nil (sheetBytes b (s .choice) (s .trials)))
+
+      own : sameLists eqb sheet (sheetBytes b (s .choice) (s .trials)) ≡ true
+      own = ap (sameLists eqb sheet) (sym (s .bytes)) ∙ same-refl sheet
+
+  -- and nothing else is
+  pub reader-only : (x : SheetData) → readerResult book sheet ≡ done x → (s : SheetOf b sheet) × (x ≡ dataOf (s .choice) (s .trials))
+  reader-only x q = go (choiceFrom sheet 0 (b .loads)) refl (sym read-one ∙ q)
+    where
+      go : (m : Option Choice) → choiceFrom sheet 0 (b .loads) ≡ m → readAs sheet b m ≡ done x → (s : SheetOf b sheet) × (x ≡ dataOf (s .choice) (s .trials))
+      go none p q = absurd (refused-done ForeignSheet 0 x q)
+      go (some c) p q =
+          let k : (first (foreign b sheet c (trialsOn sheet)) ≡ Passed) × (Path (Result SheetData) (done (dataOf c (trialsOn sheet))) (done x))
+          = checked-done 0 (first (foreign b sheet c (trialsOn sheet))) (done (dataOf c (trialsOn sheet))) x q in (
+            record {
+              choice = c;
+              of-book = choice-is sheet 0 (b .loads) c p;
+              trials = trialsOn sheet;
+              bound = field-below sheet 10 8;
+              bytes = same-eq sheet (sheetBytes b c (trialsOn sheet))
+                  (not-false (sameLists eqb sheet (sheetBytes b c (trialsOn sheet))) (first-passed (foreign b sheet c (trialsOn sheet)) (k .0) .0));
+            },
+            sym (done-same (dataOf c (trialsOn sheet)) x (k .1)),
+          )

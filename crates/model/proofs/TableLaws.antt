@@ -1,0 +1,243 @@
+-- What a table of cells holds, and that it suffices: the count H, one more load, and the plan, each from the cells alone.
+-- Assumes nothing.
+use mathlib.Core.Path.{_≡_, refl, sym, ap, ap₂, _∙_, subst, fun-ext}
+use mathlib.Core.Bool.{Bool, true, false, cond, _&&_, _||_}
+use mathlib.Core.List.{List, [], _∷_, _++_, map}
+use mathlib.Core.Option.{Option, none}
+use Prim.Native.Nat.{ℕ, suc, _+_, _*_, _<_, _≤_, _/_}
+use native.Mathlib.Nat.{le-trans, le-add-right}
+use native.Mathlib.Omega.{arith}
+use lib.Dec.{T, leb, leb→le, le→leb, eqb, eqb→eq}
+use lib.IntN.{natAbs}
+use lib.ListN.{length}
+use Rattle.model.specs.Lists.{Every, product, keep, keepIf, any, sameLists}
+use Rattle.model.specs.Book.{Power, Setting, Settings}
+use Rattle.model.specs.Choice.{Choice, choices, withEach, powerIn}
+use Rattle.model.specs.Grid.{Slot, gridIn, gridsOf, admits, bestAdmitted}
+use Rattle.model.specs.Trials.{gridTop, samePair, inRange, reachedCount}
+use Rattle.model.proofs.OrderLaws.{Key, bestKey}
+use Rattle.model.proofs.ListLaws.{both, each, bool-same, every-imp, every-append, every-map, every-keep, keep-same}
+use Rattle.model.proofs.ChoiceLaws.{SettingKept, Sized, choices-sized, plusEach, settingGrids}
+use Rattle.model.proofs.RecurrenceLaws.{keyOf, key?, bestWhere, bestAt, bestOver, best-at-last, admitsAll, plan-key}
+use Rattle.model.proofs.CellLaws.{joinUpto, best-by-cell, isSome, some-any, countUpto, distinct-count}
+use Rattle.model.proofs.AdmissionLaws.{SlotsFor, admits-range}
+use Rattle.model.proofs.IndexLaws.{pairsAt, indexOf, gridAt, grid-back, WithinAll, index-below, index-apart, Kept, within-choice}
+
+-- ---- a property of every setting of every load holds in every choice
+
+module _ (P : Setting → Type 0) where
+  every-with : (vs : Settings) (cs : List Choice) → Every P vs → Every (Every P) cs → Every (Every P) (withEach vs cs)
+  every-with vs [] a b = tt
+  every-with vs (c ∷ cs) a b =
+      every-append (Every P) (map (λ v. v ∷ c) vs) (withEach vs cs)
+      (every-map (Every P) (λ v. v ∷ c) vs (every-imp P (λ v. Every P (v ∷ c)) (λ v p. (p, b .0)) vs a))
+      (every-with vs cs a (b .1))
+
+  every-choice : (loads : List Settings) → Every (Every P) loads → Every (Every P) (choices loads)
+  every-choice [] h = (tt, tt)
+  every-choice (vs ∷ loads) h = every-with vs (choices loads) (h .0) (every-choice loads (h .1))
+
+-- every choice of loads has their number of settings, and each of its settings keeps a property that all settings keep
+module _ (P : Setting → Type 0) (Q : Choice → Type 0) (loads : List Settings)
+    (f : (c : Choice) → length c ≡ length loads → Every P c → Q c) where
+  each-of : (cs : List Choice) → Sized (length loads) cs → Every (Every P) cs → Every Q cs
+  each-of [] z h = tt
+  each-of (c ∷ cs) z h = (f c (z .0) (h .0), each-of cs (z .1) (h .1))
+
+  pub each-choice : Every (Every P) loads → Every Q (choices loads)
+  each-choice h = each-of (choices loads) (choices-sized loads) (every-choice P loads h)
+
+kept : (r place : ℕ) (c : Choice) → Every (SettingKept r) c → Kept r place c
+kept r place [] h = tt
+kept r place (v ∷ c) h = (h .0 place, kept r place c (h .1))
+
+-- ---- the pairs that are in the table
+
+abbrev pub rangeAll : List Slot → List Power → Bool
+rangeAll [] gs = true
+rangeAll (s ∷ slots) [] = true
+rangeAll (s ∷ slots) (g ∷ gs) = leb (g .p) (gridTop s) && rangeAll slots gs
+
+pub range-grids : (slots : List Slot) (c : Choice) → inRange slots c ≡ rangeAll slots (gridsOf slots c)
+range-grids [] c = refl
+range-grids (s ∷ slots) c = ap (λ t. leb (gridIn s c .p) (gridTop s) && t) (range-grids slots c)
+
+pub within-all : (r n : ℕ) (slots : List Slot) → SlotsFor n slots → (c : Choice) → length c ≤ n → Every (SettingKept (suc r)) c
+    → T (rangeAll slots (gridsOf slots c)) → WithinAll (suc r) slots (gridsOf slots c)
+within-all r n [] z c l k t = tt
+within-all r n (s ∷ slots) z c l k t = (
+  within-choice r s c (z .0 .0) (omega (arith, l, z .0 .1)) (kept (suc r) (s .place) c k) (leb→le _ _ (parts .0)),
+  within-all r n slots (z .1) c l k (parts .1),
+)
+  where
+    parts : T (leb (gridIn s c .p) (gridTop s)) × T (rangeAll slots (gridsOf slots c))
+    parts = both (leb (gridIn s c .p) (gridTop s)) (rangeAll slots (gridsOf slots c)) t
+
+-- a book's slots and loads, as the reader makes them: n loads in all, of which `loads` are the first, with |Q| ≤ r P
+pub record Ready (r n : ℕ) (slots : List Slot) (loads : List Settings) : Type 0 where
+  pub for : SlotsFor n slots
+  pub few : length loads ≤ n
+  pub keeps : Every (Every (SettingKept (suc r))) loads
+
+-- all choices whose pairs are in range have a cell
+pub choices-within : (r n : ℕ) (slots : List Slot) (loads : List Settings) → Ready r n slots loads
+    → Every (λ c. T (rangeAll slots (gridsOf slots c)) → WithinAll (suc r) slots (gridsOf slots c)) (choices loads)
+choices-within r n slots loads h =
+    each-choice (SettingKept (suc r)) (λ c. T (rangeAll slots (gridsOf slots c)) → WithinAll (suc r) slots (gridsOf slots c)) loads
+    (λ c e k. within-all r n slots (h .for) c (omega (arith, h .few)) k)
+    (h .keeps)
+
+-- ---- what a cell holds: the best of the choices whose pairs are its own
+
+-- the pairs are in range, and theirs is cell i
+abbrev pub hasCell : ℕ → List Slot → ℕ → List Power → Bool
+hasCell r slots i g = rangeAll slots g && eqb (indexOf r slots g) i
+
+abbrev pub cellBest : ℕ → List Slot → List Settings → ℕ → Option Key
+cellBest r slots loads i = bestAt slots (hasCell r slots i) loads
+
+abbrev pub cellCount : ℕ → List Slot → ℕ
+cellCount r slots = product (map (pairsAt r) slots)
+
+-- ---- H is the number of cells that hold something
+
+kept-within : (r : ℕ) (slots : List Slot) (cs : List Choice)
+    → Every (λ c. T (rangeAll slots (gridsOf slots c)) → WithinAll r slots (gridsOf slots c)) cs
+    → Every (WithinAll r slots) (map (gridsOf slots) (keep (inRange slots) cs))
+kept-within r slots cs h =
+    every-map (WithinAll r slots) (gridsOf slots) (keep (inRange slots) cs)
+    (every-imp
+    (λ c. (T (rangeAll slots (gridsOf slots c)) → WithinAll r slots (gridsOf slots c)) × T (inRange slots c))
+    (λ c. WithinAll r slots (gridsOf slots c))
+    (λ c k. k .0 (subst T (range-grids slots c) (k .1)))
+    (keep (inRange slots) cs)
+    (every-keep (λ c. T (rangeAll slots (gridsOf slots c)) → WithinAll r slots (gridsOf slots c)) (inRange slots) cs h))
+
+any-kept : (r : ℕ) (slots : List Slot) (i : ℕ) (cs : List Choice)
+    → any (λ g. eqb (indexOf r slots g) i) (map (gridsOf slots) (keep (inRange slots) cs)) ≡ any (λ c. hasCell r slots i (gridsOf slots c)) cs
+any-kept r slots i [] = refl
+any-kept r slots i (c ∷ cs) = go (inRange slots c) (range-grids slots c) (any-kept r slots i cs)
+  where
+    go : (t : Bool) → t ≡ rangeAll slots (gridsOf slots c)
+        → any (λ g. eqb (indexOf r slots g) i) (map (gridsOf slots) (keep (inRange slots) cs)) ≡ any (λ d. hasCell r slots i (gridsOf slots d)) cs
+        → any (λ g. eqb (indexOf r slots g) i) (map (gridsOf slots) (keepIf t c (keep (inRange slots) cs)))
+        ≡ (hasCell r slots i (gridsOf slots c) || any (λ d. hasCell r slots i (gridsOf slots d)) cs)
+    go true e ih = ap₂ _||_ (ap (λ t. t && eqb (indexOf r slots (gridsOf slots c)) i) e) ih
+    go false e ih = ap₂ _||_ (ap (λ t. t && eqb (indexOf r slots (gridsOf slots c)) i) e) ih
+
+pub reached-cells : (r n : ℕ) (slots : List Slot) (loads : List Settings) → Ready r n slots loads
+    → reachedCount slots loads ≡ countUpto (cellCount (suc r) slots) (λ i. isSome (cellBest (suc r) slots loads i))
+unfolding bestAt reachedCount
+reached-cells r n slots loads h =
+    distinct-count (WithinAll (suc r) slots) (sameLists samePair) (indexOf (suc r) slots) (cellCount (suc r) slots)
+    (index-below (suc r) slots) (index-apart (suc r) slots)
+    (map (gridsOf slots) (keep (inRange slots) (choices loads)))
+    (kept-within (suc r) slots (choices loads) (choices-within r n slots loads h))
+    ∙ ap (countUpto (cellCount (suc r) slots))
+    (fun-ext (λ i. any-kept (suc r) slots i (choices loads) ∙ sym (some-any (λ c. hasCell (suc r) slots i (gridsOf slots c)) (choices loads))))
+
+-- ---- the best at a test, from the cells
+
+where-none : (cs : List Choice) → bestWhere (λ c. false) cs ≡ none
+where-none [] = refl
+where-none (c ∷ cs) = where-none cs
+
+pub where-test : (t : Bool) (q : Choice → Bool) (cs : List Choice) → bestWhere (λ c. t && q c) cs ≡ cond t (bestWhere q cs) none
+where-test true q cs = refl
+where-test false q cs = where-none cs
+
+-- at a list of pairs g, "G, and its cell is i" is "G at cell i's list, and i is its cell"
+cell-test : (r : ℕ) (slots : List Slot) (G : List Power → Bool) → ((g : List Power) → T (G g) → T (rangeAll slots g))
+    → (i : ℕ) (g : List Power) → (T (rangeAll slots g) → WithinAll r slots g)
+    → (G g && eqb (indexOf r slots g) i) ≡ (G (gridAt r slots i) && hasCell r slots i g)
+cell-test r slots G f i g w =
+    bool-same (G g && eqb (indexOf r slots g) i) (G (gridAt r slots i) && hasCell r slots i g) to from
+  where
+    at : T (rangeAll slots g) → T (eqb (indexOf r slots g) i) → g ≡ gridAt r slots i
+    at a b = sym (grid-back r slots g (w a)) ∙ ap (gridAt r slots) (eqb→eq (indexOf r slots g) i b)
+
+    to : T (G g && eqb (indexOf r slots g) i) → T (G (gridAt r slots i) && hasCell r slots i g)
+    to t =
+        let p : T (G g) × T (eqb (indexOf r slots g) i) = both (G g) (eqb (indexOf r slots g) i) t in
+        each (G (gridAt r slots i)) (hasCell r slots i g)
+        (subst (λ z. T (G z)) (at (f g (p .0)) (p .1)) (p .0))
+        (each (rangeAll slots g) (eqb (indexOf r slots g) i) (f g (p .0)) (p .1))
+
+    from : T (G (gridAt r slots i) && hasCell r slots i g) → T (G g && eqb (indexOf r slots g) i)
+    from t =
+        let p : T (G (gridAt r slots i)) × T (hasCell r slots i g) = both (G (gridAt r slots i)) (hasCell r slots i g) t in
+        let q : T (rangeAll slots g) × T (eqb (indexOf r slots g) i) = both (rangeAll slots g) (eqb (indexOf r slots g) i) (p .1) in
+        each (G g) (eqb (indexOf r slots g) i) (subst (λ z. T (G z)) (sym (at (q .0) (q .1))) (p .0)) (q .1)
+
+-- for a test that holds only in range, the best at it is the best of the cells whose list passes it
+pub best-cells : (r n : ℕ) (slots : List Slot) (loads : List Settings) → Ready r n slots loads
+    → (G : List Power → Bool) → ((g : List Power) → T (G g) → T (rangeAll slots g))
+    → bestAt slots G loads
+    ≡ joinUpto (cellCount (suc r) slots) (λ i. cond (G (gridAt (suc r) slots i)) (cellBest (suc r) slots loads i) none)
+unfolding bestAt
+best-cells r n slots loads h G f =
+    best-by-cell (cellCount (suc r) slots) (λ c. G (gridsOf slots c)) (λ c. indexOf (suc r) slots (gridsOf slots c)) (choices loads)
+    (every-imp
+    (λ c. T (rangeAll slots (gridsOf slots c)) → WithinAll (suc r) slots (gridsOf slots c))
+    (λ c. T (G (gridsOf slots c)) → indexOf (suc r) slots (gridsOf slots c) < cellCount (suc r) slots)
+    (λ c w t. index-below (suc r) slots (gridsOf slots c) (w (f (gridsOf slots c) t)))
+    (choices loads) within)
+    ∙ ap (joinUpto (cellCount (suc r) slots)) (fun-ext at)
+  where
+    within : Every (λ c. T (rangeAll slots (gridsOf slots c)) → WithinAll (suc r) slots (gridsOf slots c)) (choices loads)
+    within = choices-within r n slots loads h
+
+    at : (i : ℕ) → bestWhere (λ c. G (gridsOf slots c) && eqb (indexOf (suc r) slots (gridsOf slots c)) i) (choices loads)
+        ≡ cond (G (gridAt (suc r) slots i)) (bestWhere (λ c. hasCell (suc r) slots i (gridsOf slots c)) (choices loads)) none
+    at i =
+        ap (λ cs. bestKey (map keyOf cs))
+        (keep-same
+        (λ c. G (gridsOf slots c) && eqb (indexOf (suc r) slots (gridsOf slots c)) i)
+        (λ c. G (gridAt (suc r) slots i) && hasCell (suc r) slots i (gridsOf slots c))
+        (choices loads)
+        (every-imp
+        (λ c. T (rangeAll slots (gridsOf slots c)) → WithinAll (suc r) slots (gridsOf slots c))
+        (λ c. (G (gridsOf slots c) && eqb (indexOf (suc r) slots (gridsOf slots c)) i) ≡ (G (gridAt (suc r) slots i) && hasCell (suc r) slots i (gridsOf slots c)))
+        (λ c w. cell-test (suc r) slots G f i (gridsOf slots c) w)
+        (choices loads) within))
+        ∙ where-test (G (gridAt (suc r) slots i)) (λ c. hasCell (suc r) slots i (gridsOf slots c)) (choices loads)
+
+-- ---- one more load: each cell from the cells before
+
+pub range-plus : (slots : List Slot) (g : List Power) (v : Setting) → T (rangeAll slots (plusEach g (settingGrids slots v))) → T (rangeAll slots g)
+range-plus [] g v t = tt
+range-plus (s ∷ slots) [] v t = tt
+range-plus (s ∷ slots) (x ∷ g) v t =
+    each (leb (x .p) (gridTop s)) (rangeAll slots g)
+    (le→leb (x .p) (gridTop s) (le-trans (le-add-right (x .p) (powerIn (s .place) v .p / s .step)) (leb→le _ _ (parts .0))))
+    (range-plus slots g v (parts .1))
+  where
+    parts : T (leb (x .p + powerIn (s .place) v .p / s .step) (gridTop s)) × T (rangeAll slots (plusEach g (settingGrids slots v)))
+    parts = both (leb (x .p + powerIn (s .place) v .p / s .step) (gridTop s)) (rangeAll slots (plusEach g (settingGrids slots v))) t
+
+pub cells-last : (r n : ℕ) (slots : List Slot) (loads : List Settings) (vs : Settings) → Ready r n slots loads → (i : ℕ)
+    → cellBest (suc r) slots (loads ++ (vs ∷ [])) i
+    ≡ bestOver (length loads)
+    (λ v. joinUpto (cellCount (suc r) slots)
+    (λ j. cond (hasCell (suc r) slots i (plusEach (gridAt (suc r) slots j) (settingGrids slots v))) (cellBest (suc r) slots loads j) none))
+    vs
+cells-last r n slots loads vs h i =
+    best-at-last slots (hasCell (suc r) slots i) loads vs
+    ∙ ap (λ old. bestOver (length loads) old vs)
+    (fun-ext (λ v. best-cells r n slots loads h (λ g. hasCell (suc r) slots i (plusEach g (settingGrids slots v)))
+    (λ g t. range-plus slots g v (both (rangeAll slots (plusEach g (settingGrids slots v))) (eqb (indexOf (suc r) slots (plusEach g (settingGrids slots v))) i) t .0))))
+
+-- ---- the plan, from the cells
+
+range-admits : (n : ℕ) (slots : List Slot) → SlotsFor n slots → (g : List Power) → T (admitsAll slots g) → T (rangeAll slots g)
+range-admits n [] z g t = tt
+range-admits n (s ∷ slots) z [] t = tt
+range-admits n (s ∷ slots) z (x ∷ g) t =
+    each (leb (x .p) (gridTop s)) (rangeAll slots g)
+    (le→leb (x .p) (gridTop s) (admits-range s x (z .0 .0) (both (admits s x) (admitsAll slots g) t .0)))
+    (range-admits n slots (z .1) g (both (admits s x) (admitsAll slots g) t .1))
+
+pub plan-cells : (r n : ℕ) (slots : List Slot) (loads : List Settings) → Ready r n slots loads
+    → key? (bestAdmitted slots loads)
+    ≡ joinUpto (cellCount (suc r) slots) (λ i. cond (admitsAll slots (gridAt (suc r) slots i)) (cellBest (suc r) slots loads i) none)
+plan-cells r n slots loads h = plan-key slots loads ∙ best-cells r n slots loads h (admitsAll slots) (range-admits n slots (h .for))

@@ -1,0 +1,89 @@
+-- The values of the declared types Load and Book hold all of a book that was read: it can be had back from them.
+-- Assumes nothing.
+use mathlib.Core.Path.{_≡_, refl, sym, ap, _∙_}
+use mathlib.Core.List.{List, [], _∷_, map, map-map}
+use Prim.Native.Nat.{ℕ, zero, suc, _+_, _-_, _*_, _/_, _%_, _<_, _≤_}
+use native.Mathlib.Nat.{zero-add, le-of-suc-le-suc}
+use native.Mathlib.Omega.{arith}
+use lib.IntN.{ℤ, pos, negsuc, natAbs, subℕ}
+use lib.ListN.{length, getD, take}
+use Rattle.model.specs.declared.Load.{Load}
+use Rattle.model.specs.Lists.{upto, Every}
+use Rattle.model.specs.Refusals.{done}
+use Rattle.model.specs.Book.{Power, noPower, Settings, Problem, readBook}
+use Rattle.model.specs.Choice.{powerIn}
+use Rattle.model.specs.Quick.{noSetting}
+use Rattle.model.specs.Values.{raised, settingOf, powerOf, loadValue, bookValue, settingIn, settingsIn, problemOf}
+use Rattle.model.proofs.ListLaws.{every-at}
+use Rattle.model.proofs.UptoLaws.{suc-across, getD-upto, take-upto, upto-is}
+use Rattle.model.proofs.IntegerLaws.{sub-pos, sub-neg}
+use Rattle.model.proofs.ReaderLaws.{Numbered, Labelled, SettingSmall, GoodBook, book-good}
+
+pub raised-back : (q : ℤ) → natAbs q ≤ 32768 → subℕ (raised q) 32768 ≡ q
+unfolding raised
+raised-back (pos n) h = sub-pos (n + 32768) 32768 (omega arith) ∙ ap {B = ℤ} pos (omega arith)
+raised-back (negsuc n) h = sub-neg (32767 - n) 32768 (omega arith) ∙ ap {B = ℤ} negsuc (omega arith)
+
+numbered-at : (i : ℕ) (vs : Settings) → Numbered i vs → (k : ℕ) → k < length vs → i + k ≡ getD vs k noSetting .number
+numbered-at i [] h k l = absurd (omega arith)
+numbered-at i (v ∷ vs) h zero l = omega (arith, h .0)
+numbered-at i (v ∷ vs) h (suc k) l = suc-across i k ∙ numbered-at (suc i) vs (h .1) k (le-of-suc-le-suc l)
+
+-- place 4 c + s is setting c in slot s
+pub power-at : (vs : Settings) (c s : ℕ) → s < 4 → powerOf vs (4 * c + s) ≡ powerIn s (settingOf vs c)
+unfolding powerOf
+power-at vs c s h =
+    let low : (4 * c + s) % 4 ≡ s = omega arith in
+    let high : (4 * c + s) / 4 ≡ c = omega arith in
+    rw (low, high)
+
+-- the power that a value holds there
+abbrev heldPower : Load → ℕ → ℕ → Power
+heldPower l c s = record { p = getD (l .actives) (4 * c + s) 0; q = subℕ (getD (l .reactives) (4 * c + s) 0) 32768 }
+
+module _ (t : ℕ) (vs : Settings) (four : t ≤ 4) (labels : Labelled vs) (powers : Every (λ v. length (v .powers) ≡ t) vs) (small : Every SettingSmall vs) where
+  power-kept : (c s : ℕ) → c < length vs → s < t → heldPower (loadValue vs) c s ≡ powerIn s (settingOf vs c)
+  unfolding loadValue
+  power-kept c s h k =
+      let place : 4 * c + s < 16 = omega (arith, labels .few) in
+      let at : powerOf vs (4 * c + s) ≡ powerIn s (settingOf vs c) = power-at vs c s (omega arith) in
+      let p-at : getD (map (λ i. powerOf vs i .p) (upto 16)) (4 * c + s) 0 ≡ powerIn s (settingOf vs c) .p
+      = getD-upto (λ i. powerOf vs i .p) 16 (4 * c + s) 0 place ∙ ap (λ (x : Power). x .p) at in
+      let q-at : subℕ (getD (map (λ i. raised (powerOf vs i .q)) (upto 16)) (4 * c + s) 0) 32768 ≡ powerIn s (settingOf vs c) .q
+      = ap (λ n. subℕ n 32768) (getD-upto (λ i. raised (powerOf vs i .q)) 16 (4 * c + s) 0 place ∙ ap (λ (x : Power). raised (x .q)) at)
+      ∙ raised-back (powerIn s (settingOf vs c) .q) (every-at SettingSmall vs noSetting small c h .reactive s) in
+      λ i. record { p = p-at i; q = q-at i }
+
+  setting-kept : (c : ℕ) → c < length vs → settingIn t (loadValue vs) c ≡ settingOf vs c
+  unfolding loadValue
+  setting-kept c h =
+      let number-is : c ≡ settingOf vs c .number = sym (zero-add c) ∙ numbered-at 0 vs (labels .numbered) c h in
+      let worth-is : getD (map (λ i. settingOf vs i .worth) (upto 4)) c 0 ≡ settingOf vs c .worth
+      = getD-upto (λ i. settingOf vs i .worth) 4 c 0 (omega (arith, labels .few)) in
+      let sized : length (settingOf vs c .powers) ≡ t = every-at (λ v. length (v .powers) ≡ t) vs noSetting powers c h in
+      let powers-are : settingIn t (loadValue vs) c .powers ≡ settingOf vs c .powers
+      = ap (λ n. settingIn n (loadValue vs) c .powers) (sym sized)
+      ∙ upto-is (heldPower (loadValue vs) c) (settingOf vs c .powers) noPower (λ s k. power-kept c s h (omega arith)) in
+      λ i. record { number = number-is i; worth = worth-is i; powers = powers-are i }
+
+  -- the settings of a load, had back from its value
+  pub value-kept : settingsIn t (loadValue vs) ≡ vs
+  unfolding loadValue
+  value-kept = upto-is (settingIn t (loadValue vs)) vs noSetting setting-kept
+
+-- a book that was read, had back from its value
+pub book-kept : (bytes : List ℕ) (b : Problem) → readBook bytes ≡ done b → problemOf (bookValue b) ≡ b
+unfolding problemOf bookValue
+book-kept bytes b e =
+    let g : GoodBook b = book-good bytes b e in
+    let limits-are : take (length (b .limits)) (map (λ s. getD (b .limits) s 0) (upto 4)) ≡ b .limits
+    = take-upto (λ s. getD (b .limits) s 0) (length (b .limits)) 4 (g .slots-few) ∙ upto-is (λ s. getD (b .limits) s 0) (b .limits) 0 (λ i l. refl) in
+    let loads-are : map (settingsIn (length (b .limits))) (take (length (b .loads)) (map (λ k. loadValue (getD (b .loads) k [])) (upto 24))) ≡ b .loads
+    = ap (map (settingsIn (length (b .limits)))) (take-upto (λ k. loadValue (getD (b .loads) k [])) (length (b .loads)) 24 (g .loads-few))
+    ∙ map-map (settingsIn (length (b .limits))) (λ k. loadValue (getD (b .loads) k [])) (upto (length (b .loads)))
+    ∙ upto-is (λ k. settingsIn (length (b .limits)) (loadValue (getD (b .loads) k []))) (b .loads) [] (λ k l.
+    value-kept (length (b .limits)) (getD (b .loads) k []) (g .slots-few)
+    (every-at Labelled (b .loads) [] (g .good .labels) k l)
+    (every-at (Every (λ v. length (v .powers) ≡ length (b .limits))) (b .loads) [] (g .good .powers) k l)
+    (every-at (Every SettingSmall) (b .loads) [] (g .good .small) k l)) in
+    λ i. record { fineness = b .fineness; budget = b .budget; limits = limits-are i; loads = loads-are i }
