@@ -122,9 +122,6 @@ grids-last (s ∷ slots) c v = ap₂ {C = List Power} (λ x r. x ∷ r) (grid-la
 
 -- ---- |Q| is at most r × P, for each slot
 
-abbrev pub SettingKept : ℕ → Setting → Type 0
-SettingKept r v = (slot : ℕ) → natAbs (powerIn slot v .q) ≤ r * powerIn slot v .p
-
 -- ---- the settings of a choice
 
 -- what each setting of a load has, each setting of a choice has

@@ -10,7 +10,7 @@ use Rattle.model.specs.Lists.{Every}
 use Rattle.model.specs.Book.{Setting, Settings}
 use Rattle.model.specs.Choice.{Choice, IsChoice, codeOf}
 use Rattle.model.specs.SheetReader.{settingNumbered}
-use Rattle.model.proofs.ReaderLaws.{Labelled}
+use Rattle.model.specs.Valid.{Labelled}
 use Rattle.model.proofs.SheetLaws.{number-small, found}
 
 -- n digits to the base 4, the lowest first

@@ -23,13 +23,14 @@ use Rattle.model.specs.Trials.{cells, neededWords, trials}
 use Rattle.model.specs.Sheet.{Sheet, sheetOf, sheetBytes, sheetLength}
 use Rattle.model.specs.Calls.{answerOf, bufferAfter, sizeRules, fittingBook, choiceOr, planSheet, plannerResult}
 use Rattle.model.specs.Demand.{P²+Q², S, T, Demand3}
+use Rattle.model.specs.Valid.{SettingSmall, ValidBook}
 use Rattle.model.proofs.ListLaws.{both, each, every-mem}
 use Rattle.model.proofs.UptoLaws.{suc-across}
 use Rattle.model.proofs.RefusalLaws.{done-same, checked-done, then-done, NoneApplies, first-passed, first-none, number-some}
 use Rattle.model.proofs.ChoiceLaws.{choice-every, worth-most}
 use Rattle.model.proofs.AdmissionLaws.{square-abs, abs-offset, of-admits, Rounded, rounded-choice}
 use Rattle.model.proofs.PlanLaws.{plan-sound, plan-worth, chosen-length}
-use Rattle.model.proofs.ReaderLaws.{SettingSmall, GoodBook, book-good, plan-some}
+use Rattle.model.proofs.ReaderLaws.{book-valid, plan-some}
 use Rattle.model.proofs.SheetLaws.{worth-on, numbers-on, numbers-small}
 use Rattle.model.proofs.Squares.{sq-mono}
 use Rattle.model.proofs.Overload as Overload
@@ -129,9 +130,9 @@ module _ (n d i s : ℕ) (c : Choice) (few : length c ≤ n) (t : Dec.T (admits 
 -- ---- the call
 
 -- the worth stands whole on the sheet
-worth-small : (b : Problem) (c : Choice) → GoodBook b → IsChoice (b .loads) c → worthOf c < 16 ^ 8
+worth-small : (b : Problem) (c : Choice) → ValidBook b → IsChoice (b .loads) c → worthOf c < 16 ^ 8
 worth-small b c g m =
-    let each-low : Every (λ v. v .worth ≤ 65535) c = choice-every (Every SettingSmall) (λ v. v .worth ≤ 65535) low (b .loads) c (g .good .small) m in
+    let each-low : Every (λ v. v .worth ≤ 65535) c = choice-every (Every SettingSmall) (λ v. v .worth ≤ 65535) low (b .loads) c (g .loads .small) m in
     omega (arith, chosen-length (b .loads) c m, worth-most 65535 c each-low)
   where
     below : (v : Setting) → SettingSmall v → v .worth ≤ 65535
@@ -144,7 +145,7 @@ pub sheet-demand3 : (book : List ℕ) (b : Problem) (c : Choice) (t : ℕ) (past
     → Demand3 book (sheetBytes b c t ++ past)
 unfolding plan slotsOf
 sheet-demand3 book b c t past e p =
-    let good : GoodBook b = book-good book b e in
+    let good : ValidBook b = book-valid book b e in
     let sound : IsChoice (b .loads) c × Dec.T (admitted (slotsOf b) c) = plan-sound (slotsOf b) (b .loads) c p in
     let len : length c ≡ length (b .loads) = chosen-length (b .loads) c (sound .0) in
     let few : length c ≤ length (b .loads) = omega arith in
@@ -155,7 +156,7 @@ sheet-demand3 book b c t past e p =
       on-sheet = record {
         of-book = sound .0;
         numbers = λ k l.
-            numbers-on b c t (sheetBytes b c t ++ past) past refl (numbers-small (b .loads) c (good .good .labels) (sound .0)) (standing (T b)) k (omega arith);
+            numbers-on b c t (sheetBytes b c t ++ past) past refl (numbers-small (b .loads) c (good .loads .labels) (sound .0)) (standing (T b)) k (omega arith);
         worth = worth-on b c t (sheetBytes b c t ++ past) past refl (worth-small b c good (sound .0));
       };
       worth = λ other m h.

@@ -13,9 +13,10 @@ use Rattle.model.specs.Lists.{Every, keepIf}
 use Rattle.model.specs.Book.{Settings}
 use Rattle.model.specs.Grid.{Slot, gridsOf}
 use Rattle.model.specs.Trials.{gridTop, trialsUpto}
+use Rattle.model.specs.Valid.{SettingKept}
 use Rattle.model.proofs.OrderLaws.{bestKey}
 use Rattle.model.proofs.ListLaws.{each, every-take}
-use Rattle.model.proofs.ChoiceLaws.{SettingKept, plusEach, settingGrids}
+use Rattle.model.proofs.ChoiceLaws.{plusEach, settingGrids}
 use Rattle.model.proofs.RecurrenceLaws.{keyOf, bestAt, bestOver}
 use Rattle.model.proofs.CellLaws.{joinUpto, countUpto, isSome}
 use Rattle.model.proofs.IndexLaws.{indexOf, gridAt}

@@ -19,37 +19,14 @@ use Rattle.model.specs.Book.{noPower, Setting, Settings, Problem, slotCo
 use Rattle.model.specs.Choice.{Choice, IsChoice, choices, powerIn, sumIn, plus, square, apparentSquared}
 use Rattle.model.specs.Grid.{Slot, slotsOf, keepsLimits, admitted, betterOf, better, best, bestAdmitted, plan}
 use Rattle.model.specs.Quick.{firstSetting}
+use Rattle.model.specs.Valid.{SettingKept, Idle, Numbered, Labelled, SettingSmall, ValidLoads, ValidBook}
 use Rattle.model.proofs.UptoLaws.{length-upto}
 use Rattle.model.proofs.ListLaws.{each, both-true, within-is, every-imp, every-image, every-getD, every-kept, any-false}
 use Rattle.model.proofs.FrameLaws.{field-below, signed-small}
 use Rattle.model.proofs.RefusalLaws.{done-same, checked-done, then-done, NoneApplies, first-passed}
-use Rattle.model.proofs.ChoiceLaws.{SettingKept, plus-none}
+use Rattle.model.proofs.ChoiceLaws.{plus-none}
 use Rattle.model.proofs.AdmissionLaws.{slots-for, keeps-admitted}
 use Rattle.model.proofs.PlanLaws.{chosen-in, chosen-length}
-
--- ---- what is known of a load
-
--- its first setting has no power
-abbrev pub Idle : Settings → Type 0
-Idle [] = ⊥
-Idle (v ∷ vs) = (slot : ℕ) → powerIn slot v ≡ noPower
-
--- the settings have the numbers i, i + 1, ..
-abbrev pub Numbered : ℕ → Settings → Type 0
-Numbered i [] = Unit {0}
-Numbered i (v ∷ vs) = (v .number ≡ i) × Numbered (suc i) vs
-
--- standing has number 0, and 1 to 3 options follow
-pub record Labelled (vs : Settings) : Type 0 where
-  pub numbered : Numbered 0 vs
-  pub several : 1 < length vs
-  pub few : length vs ≤ 4
-
--- the numbers have 16 bits
-pub record SettingSmall (v : Setting) : Type 0 where
-  pub worth : v .worth < 65536
-  pub active : (slot : ℕ) → powerIn slot v .p < 65536
-  pub reactive : (slot : ℕ) → natAbs (powerIn slot v .q) ≤ 32768
 
 -- ---- the settings that a line gives
 
@@ -116,19 +93,10 @@ small-settings t line = (
 
 -- ---- the loads
 
--- what is known of n loads in t slots that were read
-pub record Good (n t : ℕ) (loads : List Settings) : Type 0 where
-  pub count : length loads ≡ n
-  pub keeps : Every (Every (SettingKept 1)) loads
-  pub idle : Every Idle loads
-  pub labels : Every Labelled loads
-  pub powers : Every (Every (λ v. length (v .powers) ≡ t)) loads
-  pub small : Every (Every SettingSmall) loads
-
-good-none : (t : ℕ) → Good 0 t []
+good-none : (t : ℕ) → ValidLoads 0 t []
 good-none t = record { count = refl; keeps = tt; idle = tt; labels = tt; powers = tt; small = tt }
 
-good-more : (n t : ℕ) (line : List ℕ) (loads : List Settings) → NoneApplies (loadRules t line) → Good n t loads → Good (suc n) t (settings t line ∷ loads)
+good-more : (n t : ℕ) (line : List ℕ) (loads : List Settings) → NoneApplies (loadRules t line) → ValidLoads n t loads → ValidLoads (suc n) t (settings t line ∷ loads)
 unfolding loadRules
 good-more n t line loads rules g =
     record {
@@ -146,17 +114,17 @@ good-more n t line loads rules g =
       small = (small-settings t line, g .small);
     }
 
-loads-good : (t left number : ℕ) (bytes : List ℕ) (loads : List Settings) → readLoads t left number bytes ≡ done loads → Good left t loads
+loads-good : (t left number : ℕ) (bytes : List ℕ) (loads : List Settings) → readLoads t left number bytes ≡ done loads → ValidLoads left t loads
 unfolding readLoads
 loads-good t zero number bytes loads e =
-    subst (Good 0 t) (done-same [] loads (checked-done number (first (endRules bytes)) (done []) loads e .1)) (good-none t)
+    subst (ValidLoads 0 t) (done-same [] loads (checked-done number (first (endRules bytes)) (done []) loads e .1)) (good-none t)
 loads-good t (suc left) number bytes loads e =
     let rest : Result (List Settings) = readLoads t left (suc number) (afterLine bytes) in
     let more : List Settings → Result (List Settings) = λ ls. done (settings t (lineOf bytes) ∷ ls) in
     let c : (first (lineRule bytes ∷ loadRules t (lineOf bytes)) ≡ Passed) × (andThen rest more ≡ done loads)
     = checked-done number (first (lineRule bytes ∷ loadRules t (lineOf bytes))) (andThen rest more) loads e in
     let d : (ls : List Settings) × (rest ≡ done ls) × (more ls ≡ done loads) = then-done rest more loads (c .1) in
-    subst (Good (suc left) t) (done-same (settings t (lineOf bytes) ∷ d .0) loads (d .2))
+    subst (ValidLoads (suc left) t) (done-same (settings t (lineOf bytes) ∷ d .0) loads (d .2))
     (good-more left t (lineOf bytes) (d .0) (first-passed (lineRule bytes ∷ loadRules t (lineOf bytes)) (c .0) .1)
     (loads-good t left (suc number) (afterLine bytes) (d .0) (d .1)))
 
@@ -165,7 +133,7 @@ loads-good t (suc left) number bytes loads e =
 -- how a book that was read came from its bytes
 pub record BookRead (bytes : List ℕ) (b : Problem) : Type 0 where
   pub rules : NoneApplies (headerRules (lineOf bytes))
-  pub good : Good (loadCount (lineOf bytes)) (slotCount (lineOf bytes)) (b .loads)
+  pub good : ValidLoads (loadCount (lineOf bytes)) (slotCount (lineOf bytes)) (b .loads)
   pub same : problem (lineOf bytes) (b .loads) ≡ b
 
 pub book-read : (bytes : List ℕ) (b : Problem) → readBook bytes ≡ done b → BookRead bytes b
@@ -184,18 +152,6 @@ book-read bytes b e =
       same = refl;
     })
 
--- document 01's ranges
-pub record GoodBook (b : Problem) : Type 0 where
-  pub good : Good (length (b .loads)) (length (b .limits)) (b .loads)
-  pub slots-some : 1 ≤ length (b .limits)
-  pub slots-few : length (b .limits) ≤ 4
-  pub loads-some : 1 ≤ length (b .loads)
-  pub loads-few : length (b .loads) ≤ 24
-  pub fine-some : 1 ≤ b .fineness
-  pub fine-few : b .fineness ≤ 64
-  pub budget-small : b .budget < 2 ^ 32
-  pub limits-small : Every (λ s. s < 65536) (b .limits)
-
 module _ (bytes : List ℕ) (b : Problem) (e : readBook bytes ≡ done b) where
   -- N and T are the header's
   pub loads-count : length (b .loads) ≡ loadCount (lineOf bytes)
@@ -206,9 +162,9 @@ module _ (bytes : List ℕ) (b : Problem) (e : readBook bytes ≡ done b) where
       ap (λ (x : Problem). length (x .limits)) (sym (book-read bytes b e .same))
       ∙ length-upto (λ s. field (lineOf bytes) (16 + 4 * s) 4) (slotCount (lineOf bytes))
 
-  pub book-good : GoodBook b
+  pub book-valid : ValidBook b
   unfolding headerRules
-  book-good =
+  book-valid =
       let line : List ℕ = lineOf bytes in
       let r : BookRead bytes b = book-read bytes b e in
       let s : (1 ≤ slotCount line) × (slotCount line ≤ 4) = within-is 1 4 (slotCount line) (not-false (within 1 4 (slotCount line)) (r .rules .1 .1 .0)) in
@@ -219,8 +175,8 @@ module _ (bytes : List ℕ) (b : Problem) (e : readBook bytes ≡ done b) where
       let d : (1 ≤ finenessIn line) × (finenessIn line ≤ 64) = within-is 1 64 (finenessIn line) (w .1) in
       let fine : finenessIn line ≡ b .fineness = ap (λ (x : Problem). x .fineness) (r .same) in
       record {
-        good = subst (λ k. Good k (length (b .limits)) (b .loads)) (sym loads-count)
-            (subst (λ k. Good (loadCount line) k (b .loads)) (sym slots-count) (r .good));
+        loads = subst (λ k. ValidLoads k (length (b .limits)) (b .loads)) (sym loads-count)
+            (subst (λ k. ValidLoads (loadCount line) k (b .loads)) (sym slots-count) (r .good));
         slots-some = omega (arith, slots-count, s .0);
         slots-few = omega (arith, slots-count, s .1);
         loads-some = omega (arith, loads-count, n .0);
@@ -265,7 +221,7 @@ unfolding plan bestAdmitted
 plan-some bytes b e = go (plan b) refl
   where
     idle : Every Idle (b .loads)
-    idle = book-good bytes b e .good .idle
+    idle = book-valid bytes b e .loads .idle
 
     go : (m : Option Choice) → plan b ≡ m → (d : Choice) × (plan b ≡ some d)
     go (some d) q = (d, q)

@@ -18,10 +18,11 @@ use Rattle.model.specs.Book.{Power, Setting, Settings}
 use Rattle.model.specs.Choice.{Choice, choices, plus, worthOf, codeOf}
 use Rattle.model.specs.Grid.{Slot, gridIn, gridsOf}
 use Rattle.model.specs.Trials.{gridTop}
+use Rattle.model.specs.Valid.{SettingKept}
 use Rattle.model.proofs.OrderLaws.{Key, beats, join, join-none, join-assoc, bestKey}
 use Rattle.model.proofs.ListLaws.{both, each, bool-same, keep-same, every-imp, every-append, every-at}
 use Rattle.model.proofs.IntegerLaws.{up, down, split}
-use Rattle.model.proofs.ChoiceLaws.{SettingKept, snoc, plusEach, settingGrid, settingGrids, grids-last}
+use Rattle.model.proofs.ChoiceLaws.{snoc, plusEach, settingGrid, settingGrids, grids-last}
 use Rattle.model.proofs.RecurrenceLaws.{keyOf, bestWhere, bestAt, bestOver, step, best-at-last}
 use Rattle.model.proofs.AdmissionLaws.{SlotsFor}
 use Rattle.model.proofs.CellLaws.{joinUpto}

@@ -23,11 +23,12 @@ use Rattle.model.specs.Grid.{Slot, slotsFrom, slotsOf}
 use Rattle.model.specs.Sheet.{lf, numbersOf, firstLine, slotLine, slotLines, sheetBytes, sheetLength}
 use Rattle.model.specs.Quick.{noSetting}
 use Rattle.model.specs.SheetReader.{SheetOf, SheetData, settingNumbered, consBoth, choiceFrom, trialsOn, readAs, sheetData, readerResult}
+use Rattle.model.specs.Valid.{Numbered, Labelled}
 use Rattle.model.proofs.ListLaws.{length-concat, same-eq, same-refl}
 use Rattle.model.proofs.FrameLaws.{length-digits, field-back, field-below}
 use Rattle.model.proofs.RefusalLaws.{refused-done, done-same, checked-done, first-passed, first-none}
 use Rattle.model.proofs.ChoiceLaws.{choice-every}
-use Rattle.model.proofs.ReaderLaws.{Numbered, Labelled, book-good}
+use Rattle.model.proofs.ReaderLaws.{book-valid}
 
 -- ---- the length
 
@@ -204,7 +205,7 @@ module _ (book sheet : List ℕ) (b : Problem) (e : readBook book ≡ done b) wh
       ∙ ap (λ f. checked 0 f (done (dataOf (s .choice) (s .trials)))) (first-none (foreign b sheet (s .choice) (s .trials)) (ap not own, tt))
     where
       labels : Every Labelled (b .loads)
-      labels = book-good book b e .good .labels
+      labels = book-valid book b e .loads .labels
 
       plain : sheet ≡ sheetBytes b (s .choice) (s .trials) ++ []
       plain = s .bytes ∙ sym (append-nil (sheetBytes b (s .choice) (s .trials)))

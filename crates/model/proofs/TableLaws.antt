@@ -15,9 +15,10 @@ use Rattle.model.specs.Book.{Power, Setting, Settings}
 use Rattle.model.specs.Choice.{Choice, choices, withEach, powerIn}
 use Rattle.model.specs.Grid.{Slot, gridIn, gridsOf, admits, bestAdmitted}
 use Rattle.model.specs.Trials.{gridTop, samePair, inRange, reachedCount}
+use Rattle.model.specs.Valid.{SettingKept}
 use Rattle.model.proofs.OrderLaws.{Key, bestKey}
 use Rattle.model.proofs.ListLaws.{both, each, bool-same, every-imp, every-append, every-map, every-keep, keep-same}
-use Rattle.model.proofs.ChoiceLaws.{SettingKept, Sized, choices-sized, plusEach, settingGrids}
+use Rattle.model.proofs.ChoiceLaws.{Sized, choices-sized, plusEach, settingGrids}
 use Rattle.model.proofs.RecurrenceLaws.{keyOf, key?, bestWhere, bestAt, bestOver, best-at-last, admitsAll, plan-key}
 use Rattle.model.proofs.CellLaws.{joinUpto, best-by-cell, isSome, some-any, countUpto, distinct-count}
 use Rattle.model.proofs.AdmissionLaws.{SlotsFor, admits-range}

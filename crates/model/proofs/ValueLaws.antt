@@ -8,16 +8,18 @@ use native.Mathlib.Omega.{arith}
 use lib.IntN.{ℤ, pos, negsuc, natAbs, subℕ}
 use lib.ListN.{length, getD, take}
 use Rattle.model.specs.declared.Load.{Load}
+use Rattle.model.specs.declared.Book.{Book}
 use Rattle.model.specs.Lists.{upto, Every}
 use Rattle.model.specs.Refusals.{done}
 use Rattle.model.specs.Book.{Power, noPower, Settings, Problem, readBook}
 use Rattle.model.specs.Choice.{powerIn}
 use Rattle.model.specs.Quick.{noSetting}
-use Rattle.model.specs.Values.{raised, settingOf, powerOf, loadValue, bookValue, settingIn, settingsIn, problemOf}
+use Rattle.model.specs.Values.{Held, raised, settingOf, powerOf, loadValue, bookValue, settingIn, settingsIn, problemOf}
+use Rattle.model.specs.Valid.{Numbered, Labelled, SettingSmall, ValidBook}
 use Rattle.model.proofs.ListLaws.{every-at}
 use Rattle.model.proofs.UptoLaws.{suc-across, getD-upto, take-upto, upto-is}
 use Rattle.model.proofs.IntegerLaws.{sub-pos, sub-neg}
-use Rattle.model.proofs.ReaderLaws.{Numbered, Labelled, SettingSmall, GoodBook, book-good}
+use Rattle.model.proofs.ReaderLaws.{book-valid}
 
 pub raised-back : (q : ℤ) → natAbs q ≤ 32768 → subℕ (raised q) 32768 ≡ q
 unfolding raised
@@ -71,11 +73,10 @@ module _ (t : ℕ) (vs : Settings) (four : t ≤ 4) (labels : Labelled vs) (powe
   unfolding loadValue
   value-kept = upto-is (settingIn t (loadValue vs)) vs noSetting setting-kept
 
--- a book that was read, had back from its value
-pub book-kept : (bytes : List ℕ) (b : Problem) → readBook bytes ≡ done b → problemOf (bookValue b) ≡ b
+-- a valid book, had back from its value
+pub valid-kept : (b : Problem) → ValidBook b → problemOf (bookValue b) ≡ b
 unfolding problemOf bookValue
-book-kept bytes b e =
-    let g : GoodBook b = book-good bytes b e in
+valid-kept b g =
     let limits-are : take (length (b .limits)) (map (λ s. getD (b .limits) s 0) (upto 4)) ≡ b .limits
     = take-upto (λ s. getD (b .limits) s 0) (length (b .limits)) 4 (g .slots-few) ∙ upto-is (λ s. getD (b .limits) s 0) (b .limits) 0 (λ i l. refl) in
     let loads-are : map (settingsIn (length (b .limits))) (take (length (b .loads)) (map (λ k. loadValue (getD (b .loads) k [])) (upto 24))) ≡ b .loads
@@ -83,7 +84,14 @@ book-kept bytes b e =
     ∙ map-map (settingsIn (length (b .limits))) (λ k. loadValue (getD (b .loads) k [])) (upto (length (b .loads)))
     ∙ upto-is (λ k. settingsIn (length (b .limits)) (loadValue (getD (b .loads) k []))) (b .loads) [] (λ k l.
     value-kept (length (b .limits)) (getD (b .loads) k []) (g .slots-few)
-    (every-at Labelled (b .loads) [] (g .good .labels) k l)
-    (every-at (Every (λ v. length (v .powers) ≡ length (b .limits))) (b .loads) [] (g .good .powers) k l)
-    (every-at (Every SettingSmall) (b .loads) [] (g .good .small) k l)) in
+    (every-at Labelled (b .loads) [] (g .loads .labels) k l)
+    (every-at (Every (λ v. length (v .powers) ≡ length (b .limits))) (b .loads) [] (g .loads .powers) k l)
+    (every-at (Every SettingSmall) (b .loads) [] (g .loads .small) k l)) in
     λ i. record { fineness = b .fineness; budget = b .budget; limits = limits-are i; loads = loads-are i }
+
+pub held-kept : (v : Book) (h : Held v) → problemOf v ≡ h .b
+held-kept v h = ap problemOf (h .is) ∙ valid-kept (h .b) (h .valid)
+
+-- a book that was read: nothing of it is lost
+pub book-kept : (bytes : List ℕ) (b : Problem) → readBook bytes ≡ done b → problemOf (bookValue b) ≡ b
+book-kept bytes b e = valid-kept b (book-valid bytes b e)

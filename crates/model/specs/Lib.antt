@@ -12,4 +12,5 @@ pub mod Quick
 pub mod SheetReader
 pub mod Program
 pub mod Demand
+pub mod Valid
 pub mod Values

@@ -1,5 +1,6 @@
 -- What the values of the declared types Load, Book and Reading hold (src/lib.rt).
-use Prim.Native.Nat.{ℕ, _+_, _-_, _*_, _/_, _%_}
+use Prim.Native.Nat.{ℕ, _+_, _-_, _*_, _/_, _%_, _<_}
+use mathlib.Core.Path.{_≡_}
 use mathlib.Core.List.{List, [], map}
 use lib.IntN.{ℤ, pos, negsuc, subℕ}
 use lib.ListN.{length, getD, take, replicate}
@@ -10,7 +11,8 @@ use Rattle.model.specs.declared.Reading.{Reading}
 use Rattle.model.specs.Lists.{upto}
 use Rattle.model.specs.Refusals.{Result, refused, done, numberOf}
 use Rattle.model.specs.Book.{Power, Setting, Settings, Problem}
-use Rattle.model.specs.Choice.{powerIn}
+use Rattle.model.specs.Choice.{Choice, powerIn}
+use Rattle.model.specs.Valid.{ValidBook}
 use Rattle.model.specs.Quick.{noSetting}
 
 -- Q + 32,768, which is not negative for a Q of 16 bits
@@ -59,6 +61,20 @@ readingOf (refused r number) =
     record { answer = record { number = numberOf r; line = number; bytes = 0; worth = 0; trials = 0 }; book = freshBook }
 readingOf (done b) =
     record { answer = record { number = 0; line = 0; bytes = 0; worth = 0; trials = 0 }; book = bookValue b }
+
+-- a value that holds a valid book
+pub record Held (v : Book) : Type 0 where
+  pub b : Problem
+  pub valid : ValidBook b
+  pub is : v ≡ bookValue b
+
+-- the choice whose number c of load k + 1 stands at place k of an array
+unfoldable pub choiceOf : Problem → List ℕ → Choice
+choiceOf b picks = map (λ k. settingOf (getD (b .loads) k []) (getD picks k 0)) (upto (length (b .loads)))
+
+-- each is the number of a setting of its load
+abbrev pub Picked : Problem → List ℕ → Type 0
+Picked b picks = (k : ℕ) → k < length (b .loads) → getD picks k 0 < length (getD (b .loads) k [])
 
 -- ---- the settings and the book that a value holds: nothing of a book that was read is lost (proofs/ValueLaws, `book-kept`)
 

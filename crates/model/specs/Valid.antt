@@ -1,0 +1,56 @@
+-- A valid book: what is known of every book that was read (proofs/ReaderLaws, `book-valid`), for the planners to cite.
+use Prim.Native.Nat.{ℕ, suc, _*_, _^_, _<_, _≤_}
+use mathlib.Core.Path.{_≡_}
+use mathlib.Core.List.{List, [], _∷_}
+use lib.IntN.{natAbs}
+use lib.ListN.{length}
+use Rattle.model.specs.Lists.{Every}
+use Rattle.model.specs.Book.{noPower, Setting, Settings, Problem}
+use Rattle.model.specs.Choice.{powerIn}
+
+-- |Q| ≤ r P in every slot; document 01 has "|Q| ≤ P", which is r = 1
+abbrev pub SettingKept : ℕ → Setting → Type 0
+SettingKept r v = (slot : ℕ) → natAbs (powerIn slot v .q) ≤ r * powerIn slot v .p
+
+-- its first setting has no power
+abbrev pub Idle : Settings → Type 0
+Idle [] = ⊥
+Idle (v ∷ vs) = (slot : ℕ) → powerIn slot v ≡ noPower
+
+-- the settings have the numbers i, i + 1, ..
+abbrev pub Numbered : ℕ → Settings → Type 0
+Numbered i [] = Unit {0}
+Numbered i (v ∷ vs) = (v .number ≡ i) × Numbered (suc i) vs
+
+-- standing has number 0, and 1 to 3 options follow
+pub record Labelled (vs : Settings) : Type 0 where
+  pub numbered : Numbered 0 vs
+  pub several : 1 < length vs
+  pub few : length vs ≤ 4
+
+-- the numbers have 16 bits
+pub record SettingSmall (v : Setting) : Type 0 where
+  pub worth : v .worth < 65536
+  pub active : (slot : ℕ) → powerIn slot v .p < 65536
+  pub reactive : (slot : ℕ) → natAbs (powerIn slot v .q) ≤ 32768
+
+-- what is known of n loads in t slots that were read
+pub record ValidLoads (n t : ℕ) (loads : List Settings) : Type 0 where
+  pub count : length loads ≡ n
+  pub keeps : Every (Every (SettingKept 1)) loads
+  pub idle : Every Idle loads
+  pub labels : Every Labelled loads
+  pub powers : Every (Every (λ v. length (v .powers) ≡ t)) loads
+  pub small : Every (Every SettingSmall) loads
+
+-- document 01's ranges
+pub record ValidBook (b : Problem) : Type 0 where
+  pub loads : ValidLoads (length (b .loads)) (length (b .limits)) (b .loads)
+  pub slots-some : 1 ≤ length (b .limits)
+  pub slots-few : length (b .limits) ≤ 4
+  pub loads-some : 1 ≤ length (b .loads)
+  pub loads-few : length (b .loads) ≤ 24
+  pub fine-some : 1 ≤ b .fineness
+  pub fine-few : b .fineness ≤ 64
+  pub budget-small : b .budget < 2 ^ 32
+  pub limits-small : Every (λ s. s < 65536) (b .limits)
