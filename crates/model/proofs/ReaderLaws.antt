@@ -114,11 +114,11 @@ good-more n t line loads rules g =
       small = (small-settings t line, g .small);
     }
 
-loads-good : (t left number : ℕ) (bytes : List ℕ) (loads : List Settings) → readLoads t left number bytes ≡ done loads → ValidLoads left t loads
+pub loads-valid : (t left number : ℕ) (bytes : List ℕ) (loads : List Settings) → readLoads t left number bytes ≡ done loads → ValidLoads left t loads
 unfolding readLoads
-loads-good t zero number bytes loads e =
+loads-valid t zero number bytes loads e =
     subst (ValidLoads 0 t) (done-same [] loads (checked-done number (first (endRules bytes)) (done []) loads e .1)) (good-none t)
-loads-good t (suc left) number bytes loads e =
+loads-valid t (suc left) number bytes loads e =
     let rest : Result (List Settings) = readLoads t left (suc number) (afterLine bytes) in
     let more : List Settings → Result (List Settings) = λ ls. done (settings t (lineOf bytes) ∷ ls) in
     let c : (first (lineRule bytes ∷ loadRules t (lineOf bytes)) ≡ Passed) × (andThen rest more ≡ done loads)
@@ -126,7 +126,7 @@ loads-good t (suc left) number bytes loads e =
     let d : (ls : List Settings) × (rest ≡ done ls) × (more ls ≡ done loads) = then-done rest more loads (c .1) in
     subst (ValidLoads (suc left) t) (done-same (settings t (lineOf bytes) ∷ d .0) loads (d .2))
     (good-more left t (lineOf bytes) (d .0) (first-passed (lineRule bytes ∷ loadRules t (lineOf bytes)) (c .0) .1)
-    (loads-good t left (suc number) (afterLine bytes) (d .0) (d .1)))
+    (loads-valid t left (suc number) (afterLine bytes) (d .0) (d .1)))
 
 -- ---- the book
 
@@ -148,7 +148,7 @@ book-read bytes b e =
     subst (BookRead bytes) (done-same (problem line (d .0)) b (d .2))
     (record {
       rules = first-passed (lineRule bytes ∷ headerRules line) (c .0) .1;
-      good = loads-good (slotCount line) (loadCount line) 2 (afterLine bytes) (d .0) (d .1);
+      good = loads-valid (slotCount line) (loadCount line) 2 (afterLine bytes) (d .0) (d .1);
       same = refl;
     })
 

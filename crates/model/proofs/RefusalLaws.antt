@@ -68,6 +68,10 @@ pub first-next : (r : Refusal) (rs : List Rule) (t : Bool) → t ≡ false → f
 unfolding first
 first-next r rs t e = rw e
 
+pub first-last : (r : Refusal) (t : Bool) → t ≡ false → first ((t ⇒ r) ∷ []) ≡ Passed
+unfolding first
+first-last r t e = rw e
+
 pub first-none : (rs : List Rule) → NoneApplies rs → first rs ≡ Passed
 unfolding first
 first-none [] h = refl

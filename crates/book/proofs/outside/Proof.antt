@@ -1,0 +1,16 @@
+-- `book::outside` meets its contract. Assumes nothing.
+use Rattle.book.proofs.LineLaws.{ltb-not}
+use borrow.Author.Tests.{le-leb, lt-leb}
+use borrow.Author.Needs.{needs}
+use native.Mathlib.Omega.{arith}
+use Rattle.book.proofs.outside.Statement.{statement}
+use Rattle.book.proofs.outside.Tie as tie
+
+returns : tie.Need-returns
+returns c = simp (lt-leb _ _ (c .if1 .taken))
+
+returns-2 : tie.Need-returns-2
+returns-2 c = simp (le-leb _ _ (c .if1 .left)) (ltb-not (c .before .args .high) (c .before .args .x))
+
+pub outside-spec : {M : Type 1} → statement M
+outside-spec = tie.close (tie.spec returns returns-2)
