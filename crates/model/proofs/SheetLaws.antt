@@ -155,7 +155,7 @@ found-mem n (u ∷ vs) v e = go (eqb (u .number) n) e (found-mem n vs v)
 
 -- ---- the choice on a sheet
 
-choice-is : (bytes : List ℕ) (k : ℕ) (loads : List Settings) (c : Choice) → choiceFrom bytes k loads ≡ some c → IsChoice loads c
+pub choice-is : (bytes : List ℕ) (k : ℕ) (loads : List Settings) (c : Choice) → choiceFrom bytes k loads ≡ some c → IsChoice loads c
 choice-is bytes k [] c e = subst (IsChoice []) (Option·some-injective [] c e) tt
 choice-is bytes k (vs ∷ loads) c e =
     go (settingNumbered (field bytes (18 + 2 * k) 2) vs) refl (choiceFrom bytes (suc k) loads) refl e (choice-is bytes (suc k) loads)
@@ -167,7 +167,7 @@ choice-is bytes k (vs ∷ loads) c e =
     go (some v) p (some d) q e rest =
         subst (IsChoice (vs ∷ loads)) (Option·some-injective (v ∷ d) c e) (found-mem (field bytes (18 + 2 * k) 2) vs v p, rest d q)
 
-choice-back : (bytes : List ℕ) (k : ℕ) (loads : List Settings) (c : Choice) → IsChoice loads c → Every Labelled loads
+pub choice-back : (bytes : List ℕ) (k : ℕ) (loads : List Settings) (c : Choice) → IsChoice loads c → Every Labelled loads
     → ((j : ℕ) → j < length c → field bytes (18 + 2 * (k + j)) 2 ≡ getD c j noSetting .number) → choiceFrom bytes k loads ≡ some c
 choice-back bytes k [] [] m h e = refl
 choice-back bytes k [] (v ∷ c) m h e = absurd m

@@ -26,7 +26,7 @@ unfolding raised
 raised-back (pos n) h = sub-pos (n + 32768) 32768 (omega arith) ∙ ap {B = ℤ} pos (omega arith)
 raised-back (negsuc n) h = sub-neg (32767 - n) 32768 (omega arith) ∙ ap {B = ℤ} negsuc (omega arith)
 
-numbered-at : (i : ℕ) (vs : Settings) → Numbered i vs → (k : ℕ) → k < length vs → i + k ≡ getD vs k noSetting .number
+pub numbered-at : (i : ℕ) (vs : Settings) → Numbered i vs → (k : ℕ) → k < length vs → i + k ≡ getD vs k noSetting .number
 numbered-at i [] h k l = absurd (omega arith)
 numbered-at i (v ∷ vs) h zero l = omega (arith, h .0)
 numbered-at i (v ∷ vs) h (suc k) l = suc-across i k ∙ numbered-at (suc i) vs (h .1) k (le-of-suc-le-suc l)

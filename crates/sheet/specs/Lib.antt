@@ -1,0 +1,2 @@
+-- The definitions that the contracts of the sheet cite.
+pub mod Lines

@@ -1,0 +1,2 @@
+// The sheet: `write` puts its lines into a lent buffer.
+pub mod write;

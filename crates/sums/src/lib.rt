@@ -1,0 +1,141 @@
+// The true sums of a choice in each slot, its worth and its code, as running values.
+ghost use mathlib.Core.Path.{_≡_};
+ghost use mathlib.Core.List.{[]};
+ghost use Prim.Native.Nat.{_+_, _-_, _<_};
+ghost use lib.Dec.{leb};
+ghost use lib.ListN.{length};
+ghost use Rattle.model.specs.Lists.{Every};
+ghost use Rattle.model.specs.Choice.{Choice, worthOf, codeOf, square};
+ghost use Rattle.model.specs.Grid.{slotsOf, keepsLimits};
+ghost use Rattle.model.specs.Valid.{SettingSmall};
+ghost use Rattle.model.specs.Values.{Held, Picked, choiceOf, problemOf};
+ghost use Rattle.sums.specs.Sums.{sumsValue, added, exchanged, SumsSmall, CanAdd, CanExchange};
+use model::Book;
+use model::Load;
+
+// The sums in each slot: P, and Q + 32,768 for each load.
+pub struct Sums {
+    pub actives: [u64; 4],
+    pub reactives: [u64; 4],
+}
+
+impl Sums {
+    pub fn none() -> Sums
+        ensures { λ r. ⌜ r ≡ sumsValue [] ⌝ }
+    {
+        Sums {
+            actives: [0; 4],
+            reactives: [0; 4],
+        }
+    }
+
+    // With setting c of one load more.
+    pub fn plus(mut self, load: Load, c: usize) -> Sums
+        requires { ⌜ CanAdd self load c ⌝ }
+        ensures { λ r. ⌜ r ≡ added self load c ⌝ }
+    {
+        let mut actives = self.actives;
+        let mut reactives = self.reactives;
+        let mut s: usize = 0;
+        while s < 4 {
+            actives[s] = self.actives[s] + load.actives[4 * c + s];
+            reactives[s] = self.reactives[s] + load.reactives[4 * c + s];
+            s += 1;
+        }
+        self.actives = actives;
+        self.reactives = reactives;
+        self
+    }
+
+    // With setting 1 of a load in place of its setting 0.
+    pub fn exchanged(mut self, load: Load) -> Sums
+        requires { ⌜ CanExchange self load ⌝ }
+        ensures { λ r. ⌜ r ≡ exchanged self load ⌝ }
+    {
+        let mut actives = self.actives;
+        let mut reactives = self.reactives;
+        let mut s: usize = 0;
+        while s < 4 {
+            actives[s] = self.actives[s] + load.actives[4 + s] - load.actives[s];
+            reactives[s] = self.reactives[s] + load.reactives[4 + s] - load.reactives[s];
+            s += 1;
+        }
+        self.actives = actives;
+        self.reactives = reactives;
+        self
+    }
+}
+
+// The sums of the choice whose numbers are in `picks`.
+pub fn sums_of(book: Book, picks: [usize; 24]) -> Sums
+    requires { ⌜ Held book ⌝ }
+    requires { ⌜ Picked (problemOf book) picks ⌝ }
+    ensures { λ r. ⌜ r ≡ sumsValue (choiceOf (problemOf book) picks) ⌝ }
+{
+    let mut sums = Sums::none();
+    let mut k: usize = 0;
+    while k < book.count {
+        let load = book.loads[k];
+        sums = sums.plus(load, picks[k]);
+        k += 1;
+    }
+    sums
+}
+
+pub fn worth_of(book: Book, picks: [usize; 24]) -> u64
+    requires { ⌜ Held book ⌝ }
+    requires { ⌜ Picked (problemOf book) picks ⌝ }
+    ensures { λ r. ⌜ r ≡ worthOf (choiceOf (problemOf book) picks) ⌝ }
+{
+    let mut worth: u64 = 0;
+    let mut k: usize = 0;
+    while k < book.count {
+        let load = book.loads[k];
+        let c = picks[k];
+        worth += load.worths[c];
+        k += 1;
+    }
+    worth
+}
+
+// From the last load down.
+pub fn code_of(book: Book, picks: [usize; 24]) -> u64
+    requires { ⌜ Held book ⌝ }
+    requires { ⌜ Picked (problemOf book) picks ⌝ }
+    ensures { λ r. ⌜ r ≡ codeOf (choiceOf (problemOf book) picks) ⌝ }
+{
+    let mut code: u64 = 0;
+    let mut k = book.count;
+    while 0 < k {
+        k -= 1;
+        code = picks[k] as u64 + 4 * code;
+    }
+    code
+}
+
+// P² + Q² ≤ S², where q is Q + zero.
+fn fits(p: u64, q: u64, zero: u64, limit: u64) -> bool
+    requires { ⌜ (p < 2147483648) × (q < 2147483648) × (zero < 2147483648) × (limit < 65536) ⌝ }
+    ensures { λ r. ⌜ r ≡ leb (square p + square ((q - zero) + (zero - q))) (square limit) ⌝ }
+{
+    let size = if zero <= q { q - zero } else { zero - q };
+    p * p + size * size <= limit * limit
+}
+
+// The sums of a choice of the book's loads keep every limit.
+pub fn keeps(sums: Sums, book: Book) -> bool
+    requires { ⌜ Held book ⌝ }
+    requires { ⌜ SumsSmall sums ⌝ }
+    ensures { λ r. ⌜ ((c : Choice) → sums ≡ sumsValue c → Every SettingSmall c → length c ≡ length (problemOf book .loads)
+        → r ≡ keepsLimits (slotsOf (problemOf book)) c) ⌝ }
+{
+    let zero = 32768 * book.count as u64;
+    let mut s: usize = 0;
+    while s < book.slots {
+        if !fits(sums.actives[s], sums.reactives[s], zero, book.limits[s]) {
+            return false;
+        }
+        s += 1;
+    }
+    true
+}
