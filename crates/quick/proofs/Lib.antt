@@ -1,0 +1,5 @@
+-- Laws that the functions' proofs cite.
+pub mod OrderLaws
+pub mod NextLaws
+pub mod SizeLaws
+pub mod TrackLaws
