@@ -1,0 +1,93 @@
+-- `pass::setting_row` meets its contract. The row and its source row lie within their layers, as the part is what the setting offers.
+-- Assumes nothing.
+use native.Mathlib.Omega.{arith}
+use borrow.Author.Needs.{needs}
+use Rattle.pass.proofs.MoveLaws.{Ends, move-ends, move-rows, move-roomy, move-keys, move-still}
+use Rattle.pass.proofs.setting_row.Statement.{statement}
+use Rattle.pass.proofs.setting_row.Tie as tie
+
+part-of-requires : tie.Need-part-of-requires
+part-of-requires c κs =
+    let p = c .before .pre in
+    (p .0, (p .1 .1 .0, (p .1 .1 .1 .0, p .1 .1 .1 .1 .0)))
+
+-- where the pass begins and ends
+ends : (c : tie.Then1)
+    → Ends (c .before .before .before .before .args .grid) (c .before .before .before .before .args .row) (c .before .before .before .before .args .mv) (c .before .before .part-of .result)
+ends c =
+    let p = c .before .before .before .before .pre in
+    move-ends _ _ _ _ (p .0) (p .1 .1 .0) (p .1 .1 .1 .0) (p .1 .1 .1 .1 .0) (c .before .before .part-of .ensures) (c .if1 .taken)
+
+sub-from : tie.Need-sub-from
+sub-from c = omega (arith, ends (c .before))
+
+mul-from : tie.Need-mul-from
+mul-from c = omega (arith, ends (c .before .before))
+
+add-from : tie.Need-add-from
+add-from c = omega (arith, ends (c .before .before))
+
+add-from-2 : tie.Need-add-from-2
+add-from-2 c = omega (arith, ends (c .before .before .before .before))
+
+sub-from-2 : tie.Need-sub-from-2
+sub-from-2 c = omega (arith, ends (c .before .before .before .before .before))
+
+add-from-3 : tie.Need-add-from-3
+add-from-3 c = omega (arith, ends (c .before .before .before .before .before))
+
+mul-to : tie.Need-mul-to
+mul-to c = omega (arith, ends (c .before .before .before .before .before .before))
+
+add-to : tie.Need-add-to
+add-to c = omega (arith, ends (c .before .before .before .before .before .before))
+
+add-to-2 : tie.Need-add-to-2
+add-to-2 c = omega (arith, ends (c .before .before .before .before .before .before .before))
+
+sub-offer-row : tie.Need-sub-offer-row
+sub-offer-row c = omega (arith, ends (c .before .before .before .before .before .before .before .before .before))
+
+offer-row-requires : tie.Need-offer-row-requires
+offer-row-requires c κs =
+    let t = c .before .before .before .before .before .before .before .before .before in
+    let p = t .before .before .before .before .pre in
+    let q = t .before .before .part-of .ensures in (
+      move-rows _ _ _ _ (p .0) (p .1 .1 .0) (p .1 .1 .1 .0) (p .1 .1 .1 .1 .0) q (p .1 .0) (t .if1 .taken),
+      move-roomy _ _ _ _ (p .0) (p .1 .1 .0) (p .1 .1 .1 .0) (p .1 .1 .1 .1 .0) q (p .1 .0) (t .if1 .taken) (p .1 .1 .1 .1 .1),
+    )
+
+same-length : tie.Need-same-length
+same-length c = search needs
+
+returns : tie.Need-returns
+returns c =
+    let t = c .before .before .before .before .before .before .before .before .before .before .before .before in
+    let p = t .before .before .before .before .pre in
+    let q = t .before .before .part-of .ensures in
+    move-keys _ _ _ _ (p .0) (p .1 .1 .0) (p .1 .1 .1 .0) (p .1 .1 .1 .1 .0) q (p .1 .0) (t .if1 .taken) (c .before .before .offer-row .ensures)
+
+returns-2 : tie.Need-returns-2
+returns-2 c =
+    let p = c .before .before .before .before .pre in
+    move-still _ _ _ _ (p .0) (p .1 .1 .0) (p .1 .1 .1 .0) (p .1 .1 .1 .1 .0) (c .before .before .part-of .ensures) _ _ (c .if1 .left)
+
+pub setting-row-spec : {M : Type 1} → statement M
+setting-row-spec =
+    tie.close
+    (tie.spec
+    part-of-requires
+    sub-from
+    mul-from
+    add-from
+    add-from-2
+    sub-from-2
+    add-from-3
+    mul-to
+    add-to
+    add-to-2
+    sub-offer-row
+    offer-row-requires
+    same-length
+    returns
+    returns-2)

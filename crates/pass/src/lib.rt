@@ -1,0 +1,352 @@
+// One load's pass over the table: each row of the next layer is emptied where something can reach it, and is then offered, for each
+// setting in ascending order, the row that lies as far back as the setting's active powers say. Of each row only a stretch of columns
+// counts.
+ghost use mathlib.Core.Path.{_≡_};
+ghost use Prim.Native.Nat.{ℕ, _+_, _-_, _*_, _<_, _≤_};
+ghost use lib.ListN.{length, getD};
+ghost use Rattle.table.specs.Table.{Rows};
+ghost use Rattle.pass.specs.Pass.{coversFrom, GridFits, StretchesFit, MoveFits, MoveRoom, LoadFits, LoadRoom, Clipped, Part, Joined, Spans, RowKeys, RowMade, Idle, Reaches, LayerMade, raisedRow, raisedRows, held, countRows};
+
+// What a setting does to a cell: the worth it adds, its digit in the code, how many rows back its source row is, how far the columns
+// move up and down, and its active coordinates.
+pub struct SettingMove {
+    pub gain: u64,
+    pub digit: u64,
+    pub back: usize,
+    pub up: usize,
+    pub down: usize,
+    pub active: [usize; 4],
+}
+
+// What the settings of a load do, by ascending number; standing is the first of them.
+pub struct LoadMoves {
+    pub count: usize,
+    pub moves: [SettingMove; 4],
+}
+
+// The table's geometry: its cells, the columns of a row, the rows, and for each slot how many active values it has.
+pub struct Grid {
+    pub cells: usize,
+    pub width: usize,
+    pub rows: usize,
+    pub slots: usize,
+    pub tops: [usize; 4],
+}
+
+// The columns from `low` to before `high`; none where low is not below high.
+pub struct Stretch {
+    pub low: usize,
+    pub high: usize,
+}
+
+// A row that was made: its stretch, and how many of its cells hold something.
+pub struct Made {
+    pub low: usize,
+    pub high: usize,
+    pub count: usize,
+}
+
+// Whether a row's active coordinate is at least `active` in every slot.
+pub fn covers(row: usize, slots: usize, tops: [usize; 4], active: [usize; 4]) -> bool
+    requires { ⌜ slots ≤ 4 ⌝ }
+    requires { ⌜ ((t : ℕ) → t < slots → 0 < getD tops t 0) ⌝ }
+    ensures { λ r. ⌜ r ≡ coversFrom tops active 0 slots row ⌝ }
+{
+    let mut rest = row;
+    let mut t: usize = 0;
+    while t < slots {
+        let top = tops[t];
+        if rest % top < active[t] {
+            return false;
+        }
+        rest = rest / top;
+        t += 1;
+    }
+    true
+}
+
+// The columns to which a shift by `up` and `down` takes a stretch, within a row.
+pub fn clip(low: usize, high: usize, up: usize, down: usize, width: usize) -> Stretch
+    requires { ⌜ (low ≤ 1048576) × (high ≤ 1048576) × (up ≤ 1099511627776) × (down ≤ 1099511627776) ⌝ }
+    ensures { λ r. ⌜ Clipped low high up down width r ⌝ }
+{
+    if high + up <= down {
+        return Stretch { low: 0, high: 0 };
+    }
+    let end = high + up - down;
+    if low + up <= down {
+        if width < end {
+            return Stretch {
+                low: 0,
+                high: width,
+            };
+        }
+        return Stretch { low: 0, high: end };
+    }
+    let start = low + up - down;
+    if width <= start {
+        return Stretch { low: 0, high: 0 };
+    }
+    if width < end {
+        return Stretch {
+            low: start,
+            high: width,
+        };
+    }
+    Stretch {
+        low: start,
+        high: end,
+    }
+}
+
+// The columns of a row to which a setting offers something.
+pub fn part_of(
+    grid: Grid,
+    lows: &[usize; 724],
+    highs: &[usize; 724],
+    row: usize,
+    mv: SettingMove,
+) -> Stretch
+    requires { ⌜ GridFits grid ⌝ }
+    requires { ⌜ StretchesFit (now lows) (now highs) grid ⌝ }
+    requires { ⌜ row < grid .rows ⌝ }
+    requires { ⌜ MoveFits grid mv ⌝ }
+    ensures { λ r. ⌜ Part (now (lows .entry)) (now (highs .entry)) grid row mv r ⌝ }
+{
+    let back = mv.back;
+    if row < back {
+        return Stretch { low: 0, high: 0 };
+    }
+    let from = row - back;
+    let low = lows[from];
+    let high = highs[from];
+    if high <= low {
+        return Stretch { low: 0, high: 0 };
+    }
+    let tops = grid.tops;
+    let active = mv.active;
+    if covers(row, grid.slots, tops, active) {
+        return clip(low, high, mv.up, mv.down, grid.width);
+    }
+    Stretch { low: 0, high: 0 }
+}
+
+impl Stretch {
+    // The least stretch that holds both.
+    pub fn joined(self, part: Stretch) -> Stretch
+        ensures { λ r. ⌜ Joined self part r ⌝ }
+    {
+        if part.high <= part.low {
+            return self;
+        }
+        if self.high <= self.low {
+            return part;
+        }
+        if part.low < self.low {
+            if self.high < part.high {
+                return part;
+            }
+            return Stretch {
+                low: part.low,
+                high: self.high,
+            };
+        }
+        if self.high < part.high {
+            return Stretch {
+                low: self.low,
+                high: part.high,
+            };
+        }
+        self
+    }
+}
+
+// The stretch of a row that a load's settings can reach.
+pub fn span_of(
+    grid: Grid,
+    lows: &[usize; 724],
+    highs: &[usize; 724],
+    row: usize,
+    load: LoadMoves,
+) -> Stretch
+    requires { ⌜ GridFits grid ⌝ }
+    requires { ⌜ StretchesFit (now lows) (now highs) grid ⌝ }
+    requires { ⌜ row < grid .rows ⌝ }
+    requires { ⌜ LoadFits grid load ⌝ }
+    ensures { λ r. ⌜ Spans (now (lows .entry)) (now (highs .entry)) grid row load (load .count) r ⌝ }
+{
+    let count = load.count;
+    let mut s = Stretch { low: 0, high: 0 };
+    let mut n: usize = 0;
+    while n < count {
+        let mv = load.moves[n];
+        let part = part_of(grid, lows, highs, row, mv);
+        s = s.joined(part);
+        n += 1;
+    }
+    s
+}
+
+// Offers one row of the next layer what a setting brings there.
+pub fn setting_row(
+    work: &mut [u64],
+    grid: Grid,
+    cur: usize,
+    next: usize,
+    lows: &[usize; 724],
+    highs: &[usize; 724],
+    row: usize,
+    mv: SettingMove,
+)
+    requires { ⌜ GridFits grid ⌝ }
+    requires { ⌜ Rows (now work) cur next (grid .cells) ⌝ }
+    requires { ⌜ StretchesFit (now lows) (now highs) grid ⌝ }
+    requires { ⌜ row < grid .rows ⌝ }
+    requires { ⌜ MoveFits grid mv ⌝ }
+    requires { ⌜ MoveRoom (now work) (now lows) (now highs) grid cur (mv .gain) (mv .digit) ⌝ }
+    ensures { λ _. ⌜ RowKeys (now (work .entry)) (now (work .exit)) (next + row * grid .width) (grid .width) (raisedRow (now (work .entry)) (now (lows .entry)) (now (highs .entry)) grid cur next mv row) ⌝ }
+{
+    let part = part_of(grid, lows, highs, row, mv);
+    if part.low < part.high {
+        let from = cur + (row - mv.back) * grid.width + (part.low + mv.down - mv.up);
+        let to = next + row * grid.width + part.low;
+        table::offer_row(work, from, to, part.high - part.low, mv.gain, mv.digit);
+    }
+}
+
+// Offers one row of the next layer what each setting brings there, in turn.
+pub fn settings_row(
+    work: &mut [u64],
+    grid: Grid,
+    cur: usize,
+    next: usize,
+    lows: &[usize; 724],
+    highs: &[usize; 724],
+    row: usize,
+    load: LoadMoves,
+)
+    requires { ⌜ GridFits grid ⌝ }
+    requires { ⌜ Rows (now work) cur next (grid .cells) ⌝ }
+    requires { ⌜ StretchesFit (now lows) (now highs) grid ⌝ }
+    requires { ⌜ row < grid .rows ⌝ }
+    requires { ⌜ LoadFits grid load ⌝ }
+    requires { ⌜ LoadRoom (now work) (now lows) (now highs) grid cur load ⌝ }
+    ensures { λ _. ⌜ RowKeys (now (work .entry)) (now (work .exit)) (next + row * grid .width) (grid .width) (raisedRows (now (work .entry)) (now (lows .entry)) (now (highs .entry)) grid cur next load row (load .count)) ⌝ }
+{
+    let count = load.count;
+    let mut n: usize = 0;
+    while n < count {
+        let mv = load.moves[n];
+        setting_row(work, grid, cur, next, lows, highs, row, mv);
+        n += 1;
+    }
+}
+
+// Makes one row of the next layer.
+pub fn load_row(
+    work: &mut [u64],
+    grid: Grid,
+    cur: usize,
+    next: usize,
+    lows: &[usize; 724],
+    highs: &[usize; 724],
+    row: usize,
+    load: LoadMoves,
+) -> Made
+    requires { ⌜ GridFits grid ⌝ }
+    requires { ⌜ Rows (now work) cur next (grid .cells) ⌝ }
+    requires { ⌜ StretchesFit (now lows) (now highs) grid ⌝ }
+    requires { ⌜ row < grid .rows ⌝ }
+    requires { ⌜ LoadFits grid load ⌝ }
+    requires { ⌜ LoadRoom (now work) (now lows) (now highs) grid cur load ⌝ }
+    ensures { λ r. ⌜ RowMade (now (work .entry)) (now (work .exit)) (now (lows .entry)) (now (highs .entry)) grid cur next load row r ⌝ }
+{
+    let s = span_of(grid, lows, highs, row, load);
+    if s.low < s.high {
+        let at = next + row * grid.width + s.low;
+        let len = s.high - s.low;
+        table::clear(work, at, len);
+        settings_row(work, grid, cur, next, lows, highs, row, load);
+        let count = table::count_row(work, at, len);
+        return Made {
+            low: s.low,
+            high: s.high,
+            count,
+        };
+    }
+    Made {
+        low: 0,
+        high: 0,
+        count: 0,
+    }
+}
+
+// How many rows of the next layer a load can reach, where `used` rows of the current one are.
+pub fn reach_of(grid: Grid, load: LoadMoves, used: usize) -> usize
+    requires { ⌜ (load .count ≤ 4) × (used ≤ grid .rows) ⌝ }
+    ensures { λ r. ⌜ Reaches grid load used r ⌝ }
+{
+    let count = load.count;
+    let rows = grid.rows;
+    let mut r = used;
+    let mut n: usize = 0;
+    while n < count {
+        let mv = load.moves[n];
+        r = farther(r, used, mv.back, rows);
+        n += 1;
+    }
+    r
+}
+
+// The greater of r and used + back, but at most rows.
+pub fn farther(r: usize, used: usize, back: usize, rows: usize) -> usize
+    requires { ⌜ (used ≤ r) × (r ≤ rows) ⌝ }
+    ensures { λ q. ⌜ (r ≤ q) × (q ≤ rows) × ((row : ℕ) → q ≤ row → row < rows → used + back ≤ row) ⌝ }
+{
+    if rows - used <= back {
+        return rows;
+    }
+    if r < used + back {
+        return used + back;
+    }
+    r
+}
+
+// Makes the next layer and its stretches from the current one, and counts its reached cells. Only `rows` rows can be reached.
+pub fn load_pass(
+    work: &mut [u64],
+    grid: Grid,
+    cur: usize,
+    next: usize,
+    lows: &[usize; 724],
+    highs: &[usize; 724],
+    newlows: &mut [usize; 724],
+    newhighs: &mut [usize; 724],
+    load: LoadMoves,
+    used: usize,
+    rows: usize,
+) -> usize
+    requires { ⌜ GridFits grid ⌝ }
+    requires { ⌜ Rows (now work) cur next (grid .cells) ⌝ }
+    requires { ⌜ StretchesFit (now lows) (now highs) grid ⌝ }
+    requires { ⌜ LoadFits grid load ⌝ }
+    requires { ⌜ LoadRoom (now work) (now lows) (now highs) grid cur load ⌝ }
+    requires { ⌜ (length (now newlows) ≡ 724) × (length (now newhighs) ≡ 724) ⌝ }
+    requires { ⌜ Idle (now lows) (now highs) used ⌝ }
+    requires { ⌜ Idle (now newlows) (now newhighs) rows ⌝ }
+    requires { ⌜ Reaches grid load used rows ⌝ }
+    ensures { λ _. ⌜ Idle (now (newlows .exit)) (now (newhighs .exit)) rows ⌝ }
+    ensures { λ r. ⌜ r ≡ countRows (grid .rows) (grid .width) (held (now (work .exit)) (now (newlows .exit)) (now (newhighs .exit)) next (grid .width)) ⌝ }
+    ensures { λ _. ⌜ LayerMade (now (work .entry)) (now (work .exit)) (now (lows .entry)) (now (highs .entry)) (now (newlows .exit)) (now (newhighs .exit)) grid cur next load (grid .rows) ⌝ }
+{
+    let mut reached: usize = 0;
+    let mut row: usize = 0;
+    while row < rows {
+        let made = load_row(work, grid, cur, next, lows, highs, row, load);
+        newlows[row] = made.low;
+        newhighs[row] = made.high;
+        reached += made.count;
+        row += 1;
+    }
+    reached
+}

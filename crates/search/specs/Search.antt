@@ -1,0 +1,120 @@
+-- The passes of all loads: of which slots and loads the numbers of the code speak, and what the layers and the trials then are.
+use Prim.Native.Nat.{ℕ, suc, _+_, _*_, _^_, _<_, _≤_}
+use mathlib.Core.Path.{_≡_}
+use mathlib.Core.Logic.{_⊎_}
+use mathlib.Core.List.{List, [], _∷_}
+use lib.ListN.{length, getD, take}
+use Rattle.model.specs.Lists.{Every}
+use Rattle.model.specs.Book.{Setting, Settings}
+use Rattle.model.specs.Grid.{Slot, gridsOf}
+use Rattle.model.specs.Trials.{gridTop, trialsUpto}
+use Rattle.model.specs.Quick.{noSetting}
+use Rattle.model.proofs.ChoiceLaws.{settingGrid, settingGrids}
+use Rattle.model.proofs.IndexLaws.{rowIndex, columnIndex, rowCount, columnCount}
+use Rattle.model.proofs.TableLaws.{Ready, cellBest, cellCount}
+use Rattle.model.proofs.RowLaws.{columnUp, columnDown, SettingBelow}
+use Rattle.table.specs.declared.Cell.{Cell}
+use Rattle.table.specs.Table.{cellAt}
+use Rattle.pass.specs.declared.Grid.{Grid}
+use Rattle.pass.specs.declared.LoadMoves.{LoadMoves}
+use Rattle.pass.specs.declared.SettingMove.{SettingMove}
+use Rattle.pass.specs.Pass.{held, moveOf, countRows}
+
+abbrev pub noMoves : LoadMoves
+noMoves = record { count = 0; moves = [] }
+
+-- what the settings of load k + 1 do
+abbrev pub movesOf : List LoadMoves → ℕ → LoadMoves
+movesOf moves k = getD moves k noMoves
+
+-- ---- the numbers of the code
+
+-- from place t on, how many values a has in each slot: R + 1
+abbrev pub TopsAre : List ℕ → ℕ → List Slot → Type 0
+TopsAre tops t [] = Unit {0}
+TopsAre tops t (s ∷ slots) = (getD tops t 0 ≡ gridTop s + 1) × TopsAre tops (t + 1) slots
+
+-- from place t on, the grid values of a setting's P
+abbrev pub ActivesAre : List ℕ → ℕ → List Slot → Setting → Type 0
+ActivesAre active t [] v = Unit {0}
+ActivesAre active t (s ∷ slots) v = (getD active t 0 ≡ settingGrid s v .p) × ActivesAre active (t + 1) slots v
+
+-- the grid is that of the slots, at ratio r + 1
+pub record GridIs (r : ℕ) (slots : List Slot) (grid : Grid) : Type 0 where
+  pub slots-are : grid .slots ≡ length slots
+  pub slots-fit : length slots ≤ 4
+  pub tops-are : TopsAre (grid .tops) 0 slots
+  pub rows-are : grid .rows ≡ rowCount slots
+  pub width-is : grid .width ≡ columnCount (suc r) slots
+  pub cells-are : grid .cells ≡ cellCount (suc r) slots
+  pub cells-fit : grid .cells ≤ 1048576
+
+-- `mv` is what the setting v of load k + 1 does
+pub record MoveIs (r : ℕ) (slots : List Slot) (k : ℕ) (v : Setting) (mv : SettingMove) : Type 0 where
+  pub gain-is : mv .gain ≡ v .worth
+  pub digit-is : mv .digit ≡ v .number * 4 ^ k
+  pub back-is : mv .back ≡ rowIndex slots (settingGrids slots v)
+  pub up-is : mv .up ≡ columnUp (suc r) slots (settingGrids slots v)
+  pub down-is : mv .down ≡ columnDown (suc r) slots (settingGrids slots v)
+  pub actives-are : ActivesAre (mv .active) 0 slots v
+  pub up-fits : mv .up ≤ 1099511627776
+  pub down-fits : mv .down ≤ 1099511627776
+
+-- `load` is what the settings of load k + 1 do, by ascending number
+pub record LoadIs (r : ℕ) (slots : List Slot) (k : ℕ) (vs : Settings) (load : LoadMoves) : Type 0 where
+  pub count-is : load .count ≡ length vs
+  pub count-fits : length vs ≤ 4
+  pub ascending : (m n : ℕ) → m < n → n < length vs → getD vs m noSetting .number < getD vs n noSetting .number
+  pub each : (n : ℕ) → n < length vs → MoveIs r slots k (getD vs n noSetting) (moveOf load n)
+
+-- the slots and loads of the definitions of which the numbers of the code speak: n loads, at ratio r + 1; `origin` is the column of no power
+pub record Modelled (grid : Grid) (origin n : ℕ) (moves : List LoadMoves) : Type 0 where
+  pub r : ℕ
+  pub slots : List Slot
+  pub loads : List Settings
+  pub ready : Ready r n slots loads
+  pub loads-are : length loads ≡ n
+  pub loads-fit : n ≤ 24
+  pub some-load : 0 < n
+  pub some-slot : 0 < length slots
+  pub small : Every (Every (SettingBelow 65535)) loads
+  pub grid-is : GridIs r slots grid
+  pub origin-is : origin ≡ columnIndex (suc r) slots (gridsOf slots [])
+  pub each : (k : ℕ) → k < n → LoadIs r slots k (getD loads k []) (movesOf moves k)
+
+-- ---- what the search makes
+
+-- the cell that holds the choice of no load: worth 0 and code 0
+abbrev pub firstCell : Cell
+firstCell = record { worth = 1; code = 0 }
+
+-- THE LAYER after k loads: each cell holds the best of the choices of the first k loads whose grid pairs are its own
+pub record LayerIs (ws lows highs : List ℕ) (grid : Grid) (origin n : ℕ) (moves : List LoadMoves) (m : Modelled grid origin n moves) (k cur : ℕ) : Type 0 where
+  pub cell : (row col : ℕ) → row < grid .rows → col < grid .width
+      → held ws lows highs cur (grid .width) row col ≡ cellBest (suc (m .r)) (m .slots) (take k (m .loads)) (row * grid .width + col)
+
+-- where the layers lie, and that nothing beyond them has changed
+pub record Places (ws ws′ lows highs : List ℕ) (grid : Grid) (cur : ℕ) : Type 0 where
+  pub same-length : length ws′ ≡ length ws
+  pub side : (cur ≡ 0) ⊎ (cur ≡ grid .cells)
+  pub low-length : length lows ≡ 724
+  pub high-length : length highs ≡ 724
+  pub low-fits : (row : ℕ) → row < grid .rows → getD lows row 0 ≤ grid .width
+  pub high-fits : (row : ℕ) → row < grid .rows → getD highs row 0 ≤ grid .width
+  pub beyond : (x : ℕ) → 2 * grid .cells ≤ x → cellAt ws′ x ≡ cellAt ws x
+
+-- the trials of the first k loads
+abbrev pub trialsOf : {grid : Grid} {origin n : ℕ} {moves : List LoadMoves} → Modelled grid origin n moves → ℕ → ℕ
+trialsOf m k = trialsUpto (m .slots) (m .loads) k
+
+-- after the first k loads
+pub record Run (ws ws′ lows highs : List ℕ) (grid : Grid) (origin n : ℕ) (moves : List LoadMoves) (m : Modelled grid origin n moves) (k cur reached trials : ℕ) : Type 0 where
+  pub places : Places ws ws′ lows highs grid cur
+  pub layer : LayerIs ws′ lows highs grid origin n moves m k cur
+  pub reached-is : reached ≡ countRows (grid .rows) (grid .width) (held ws′ lows highs cur (grid .width))
+  pub trials-are : trials ≡ trialsOf m k
+
+-- what the search of n loads gives: the trials, if they are within the budget, and then the last layer; else that they are not
+pub record Searched (ws lows highs : List ℕ) (grid : Grid) (origin n : ℕ) (moves : List LoadMoves) (m : Modelled grid origin n moves) (budget cur trials : ℕ) : Type 0 where
+  pub within : trials ≤ budget → (trials ≡ trialsOf m n) × LayerIs ws lows highs grid origin n moves m n cur
+  pub spent : budget < trials → budget < trialsOf m n
