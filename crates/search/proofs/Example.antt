@@ -64,9 +64,9 @@ numbers (suc (suc zero)) l = refl
 numbers (suc (suc (suc n))) l = absurd (omega arith)
 
 each-setting : (n : ℕ) → n < 3 → MoveIs 0 slots 0 (getD settings n noSetting) (moveOf load n)
-each-setting zero l = record { gain-is = refl; digit-is = refl; back-is = refl; up-is = refl; down-is = refl; actives-are = (refl, tt); up-fits = omega arith; down-fits = omega arith }
-each-setting (suc zero) l = record { gain-is = refl; digit-is = refl; back-is = refl; up-is = refl; down-is = refl; actives-are = (refl, tt); up-fits = omega arith; down-fits = omega arith }
-each-setting (suc (suc zero)) l = record { gain-is = refl; digit-is = refl; back-is = refl; up-is = refl; down-is = refl; actives-are = (refl, tt); up-fits = omega arith; down-fits = omega arith }
+each-setting zero l = record { gain-is = refl; digit-is = refl; back-is = refl; shift-is = refl; actives-are = (refl, tt); up-fits = omega arith; down-fits = omega arith }
+each-setting (suc zero) l = record { gain-is = refl; digit-is = refl; back-is = refl; shift-is = refl; actives-are = (refl, tt); up-fits = omega arith; down-fits = omega arith }
+each-setting (suc (suc zero)) l = record { gain-is = refl; digit-is = refl; back-is = refl; shift-is = refl; actives-are = (refl, tt); up-fits = omega arith; down-fits = omega arith }
 each-setting (suc (suc (suc n))) l = absurd (omega arith)
 
 each-load : (k : ℕ) → k < 1 → LoadIs 0 slots k (getD (settings ∷ []) k []) (movesOf (load ∷ []) k)

@@ -3,6 +3,7 @@
 use Prim.Native.Nat.{ℕ, zero, suc, _+_, _-_, _*_, _/_, _%_, _^_, _<_, _≤_}
 use mathlib.Core.Path.{_≡_, refl, sym, ap, ap₂, _∙_, subst}
 use mathlib.Core.Bool.{Bool, true, cond, _&&_}
+use mathlib.Core.Logic.{⊎-elim}
 use mathlib.Core.Option.{Option, none}
 use mathlib.Core.List.{List, [], _∷_}
 use native.Mathlib.Nat.{suc-mul, mul-le-mul, mul-le-mul-right, pow-succ', pow-le-pow-right}
@@ -17,13 +18,15 @@ use Rattle.model.specs.Grid.{Slot}
 use Rattle.model.specs.Trials.{gridTop}
 use Rattle.model.specs.Quick.{noSetting}
 use Rattle.model.proofs.OrderLaws.{Key, shift?}
+use borrow.Author.Tests.{le-leb, lt-leb}
+use Rattle.model.proofs.IntegerLaws.{split}
 use Rattle.model.proofs.ListLaws.{every-at, every-take}
 use Rattle.model.proofs.ChoiceLaws.{settingGrids}
 use Rattle.model.proofs.RecurrenceLaws.{step}
 use Rattle.model.proofs.CellLaws.{joinUpto, isSome, countUpto}
 use Rattle.model.proofs.IndexLaws.{rowCount, cells-area}
 use Rattle.model.proofs.TableLaws.{cellBest, cellCount}
-use Rattle.model.proofs.RowLaws.{coversAll, covers-le, sourceTest, sourceCell, rows-step, over-upto, SettingBelow, Bounded, cell-bounded, rows-few}
+use Rattle.model.proofs.RowLaws.{coversAll, covers-le, columnUp, columnDown, sourceTest, sourceCell, rows-step, over-upto, SettingBelow, Bounded, cell-bounded, rows-few}
 use Rattle.pass.specs.declared.Grid.{Grid}
 use Rattle.pass.specs.declared.LoadMoves.{LoadMoves}
 use Rattle.pass.specs.declared.SettingMove.{SettingMove}
@@ -146,6 +149,22 @@ module _ {grid : Grid} {origin n : ℕ} {moves : List LoadMoves} (m : Modelled g
   -- ---- what a setting offers
 
   module _ {ws lows highs : List ℕ} {k cur : ℕ} (l : k < n) (layer : LayerIs ws lows highs grid origin n moves m k cur) (row col : ℕ) (a : row < grid .rows) where
+    -- the column from which a setting comes, and whether there is one
+    shift-column : {v : Setting} {mv : SettingMove} → MoveIs (m .r) (m .slots) k v mv
+        → col + mv .down - mv .up ≡ col + columnDown (suc (m .r)) (m .slots) (settingGrids (m .slots) v) - columnUp (suc (m .r)) (m .slots) (settingGrids (m .slots) v)
+    shift-column x = omega (arith, x .shift-is)
+
+    shift-test : {v : Setting} {mv : SettingMove} → MoveIs (m .r) (m .slots) k v mv
+        → leb (mv .up) (col + mv .down) ≡ leb (columnUp (suc (m .r)) (m .slots) (settingGrids (m .slots) v)) (col + columnDown (suc (m .r)) (m .slots) (settingGrids (m .slots) v))
+    shift-test {v} {mv} x =
+        same-test (mv .up) (mv .down) (columnUp (suc (m .r)) (m .slots) (settingGrids (m .slots) v)) (columnDown (suc (m .r)) (m .slots) (settingGrids (m .slots) v)) (x .shift-is)
+      where
+        same-test : (u d u′ d′ : ℕ) → u + d′ ≡ d + u′ → leb u (col + d) ≡ leb u′ (col + d′)
+        same-test u d u′ d′ e =
+            ⊎-elim (λ (b : col + d < u). lt-leb u (col + d) b ∙ sym (lt-leb u′ (col + d′) (omega arith)))
+            (λ (b : u ≤ col + d). le-leb u (col + d) b ∙ sym (le-leb u′ (col + d′) (omega arith)))
+            (split (col + d) u)
+
     source-is : {v : Setting} {mv : SettingMove} → MoveIs (m .r) (m .slots) k v mv
         → sourceOf ws lows highs grid cur mv row col
         ≡ cond (sourceTest (suc (m .r)) (m .slots) v row col) (cellBest (suc (m .r)) (m .slots) (take k (m .loads)) (sourceCell (suc (m .r)) (m .slots) v row col)) none
@@ -157,9 +176,9 @@ module _ {grid : Grid} {origin n : ℕ} {moves : List LoadMoves} (m : Modelled g
         (λ e. layer .cell (row - mv .back) (col + mv .down - mv .up) (omega arith)
         (source-column grid mv row col e)
         ∙ ap (cellBest (suc (m .r)) (m .slots) (take k (m .loads)))
-        (λ i. (row - x .back-is i) * m .grid-is .width-is i + (col + x .down-is i - x .up-is i)))
+        (λ i. (row - x .back-is i) * m .grid-is .width-is i + shift-column x i))
         ∙ ap (λ t. cond t (cellBest (suc (m .r)) (m .slots) (take k (m .loads)) (sourceCell (suc (m .r)) (m .slots) v row col)) none)
-        (λ i. tried-is x row i && (leb (x .up-is i) (col + x .down-is i) && ltb (col + x .down-is i - x .up-is i) (m .grid-is .width-is i)))
+        (λ i. tried-is x row i && (shift-test x i && ltb (shift-column x i) (m .grid-is .width-is i)))
 
     offer-is : (i : ℕ) → i < length (getD (m .loads) k [])
         → offerOf ws lows highs grid cur (movesOf moves k) row col i

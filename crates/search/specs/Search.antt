@@ -10,7 +10,7 @@ use Rattle.model.specs.Grid.{Slot, gridsOf}
 use Rattle.model.specs.Trials.{gridTop, trialsUpto}
 use Rattle.model.specs.Quick.{noSetting}
 use Rattle.model.proofs.ChoiceLaws.{settingGrid, settingGrids}
-use Rattle.model.proofs.IndexLaws.{rowIndex, columnIndex, rowCount, columnCount}
+use Rattle.model.proofs.IndexLaws.{widthOf, rowIndex, columnIndex, rowCount, columnCount}
 use Rattle.model.proofs.TableLaws.{Ready, cellBest, cellCount}
 use Rattle.model.proofs.RowLaws.{columnUp, columnDown, SettingBelow}
 use Rattle.table.specs.declared.Cell.{Cell}
@@ -40,6 +40,13 @@ ActivesAre active t [] v = Unit {0}
 ActivesAre active t (s ∷ slots) v = (getD active t 0 ≡ settingGrid s v .p) × ActivesAre active (t + 1) slots v
 
 -- the grid is that of the slots, at ratio r + 1
+-- from place t on, the steps, the numbers of active and of reactive values, and the limits of the slots
+abbrev pub SlotsIn : ℕ → List ℕ → List ℕ → List ℕ → List ℕ → ℕ → List Slot → Type 0
+SlotsIn r steps tops widths limits t [] = Unit {0}
+SlotsIn r steps tops widths limits t (s ∷ slots) =
+    ((getD steps t 0 ≡ s .step) × (getD tops t 0 ≡ gridTop s + 1) × (getD widths t 0 ≡ widthOf (suc r) s) × (getD limits t 0 ≡ s .limit))
+    × SlotsIn r steps tops widths limits (t + 1) slots
+
 pub record GridIs (r : ℕ) (slots : List Slot) (grid : Grid) : Type 0 where
   pub slots-are : grid .slots ≡ length slots
   pub slots-fit : length slots ≤ 4
@@ -54,8 +61,8 @@ pub record MoveIs (r : ℕ) (slots : List Slot) (k : ℕ) (v : Setting) (mv : Se
   pub gain-is : mv .gain ≡ v .worth
   pub digit-is : mv .digit ≡ v .number * 4 ^ k
   pub back-is : mv .back ≡ rowIndex slots (settingGrids slots v)
-  pub up-is : mv .up ≡ columnUp (suc r) slots (settingGrids slots v)
-  pub down-is : mv .down ≡ columnDown (suc r) slots (settingGrids slots v)
+  -- only the difference of the two counts, so that both may be raised alike
+  pub shift-is : mv .up + columnDown (suc r) slots (settingGrids slots v) ≡ mv .down + columnUp (suc r) slots (settingGrids slots v)
   pub actives-are : ActivesAre (mv .active) 0 slots v
   pub up-fits : mv .up ≤ 1099511627776
   pub down-fits : mv .down ≤ 1099511627776
