@@ -22,4 +22,5 @@ pub mod CodeLaws
 pub mod QuickLaws
 pub mod DemandLaws
 pub mod ValueLaws
+pub mod ReadingLaws
 pub mod Bench

@@ -3,3 +3,4 @@ pub mod OrderLaws
 pub mod NextLaws
 pub mod SizeLaws
 pub mod TrackLaws
+pub mod SheetLaws

@@ -1,2 +1,3 @@
 -- Laws that the functions' proofs and the callers cite.
 pub mod LineLaws
+pub mod ReaderLaws

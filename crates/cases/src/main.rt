@@ -1,0 +1,129 @@
+// Runs the quick planner and the sheet reader on fixed books and sheets, and prints each answer. Every refusal that they can
+// give is reached: 1 to 8 with its line, 11 and 13. The stored output is what document 01 says.
+use libc::STDOUT_FILENO;
+
+fn print(text: &[u8]) {
+    io::write_all(STDOUT_FILENO, text);
+}
+
+fn print_field(name: &[u8], n: u64) {
+    print(name);
+    io::print_decimal(STDOUT_FILENO, n);
+}
+
+// The quick planner on a book; prints the answer, and the buffer as the call left it.
+fn quick_case(name: &[u8], book: &[u8], sheet: &mut [u8]) {
+    let a = quick::quick(book, sheet);
+    print(name);
+    print_field(b": quick, number ", a.number);
+    print_field(b" line ", a.line);
+    print_field(b" bytes ", a.bytes);
+    print_field(b" worth ", a.worth);
+    print_field(b" trials ", a.trials);
+    print(b"\n");
+    print(sheet);
+    print(b"\n");
+}
+
+// The sheet reader on a book and a sheet.
+fn reader_case(name: &[u8], book: &[u8], sheet: &[u8]) {
+    let a = sheet::read_sheet(book, sheet);
+    print(name);
+    print_field(b": reader, number ", a.number);
+    print_field(b" line ", a.line);
+    print_field(b" bytes ", a.bytes);
+    print_field(b" worth ", a.worth);
+    print_field(b" trials ", a.trials);
+    print_field(b" code ", a.code);
+    print(b"\n");
+}
+
+// Books that are refused; the buffer stays as it is.
+fn refused_books() {
+    let mut sheet = [46u8; 60];
+    quick_case(b"torn, empty", b"", &mut sheet);
+    quick_case(
+        b"torn, load line",
+        b"010102010000006400FF\n0201000300630000\n0201000300630000",
+        &mut sheet,
+    );
+    quick_case(b"smudged", b"0101020100000064006g\n", &mut sheet);
+    quick_case(b"stray, empty line", b"\n", &mut sheet);
+    quick_case(
+        b"stray, kind",
+        b"010101010000006400FF\n0301000300630000\n",
+        &mut sheet,
+    );
+    quick_case(
+        b"crowded, T",
+        b"0105010100000064000A000A000A000A000A\n",
+        &mut sheet,
+    );
+    quick_case(
+        b"crowded, o",
+        b"010101010000006400FF\n0204000300630000\n",
+        &mut sheet,
+    );
+    quick_case(
+        b"misshapen",
+        b"010101010000006400FF\n020100030063000\n",
+        &mut sheet,
+    );
+    quick_case(b"beyond, N", b"01011901000000640064\n", &mut sheet);
+    quick_case(b"beyond, d", b"01010141000000640064\n", &mut sheet);
+    quick_case(
+        b"slack",
+        b"01010101000000640064\n020100010004FFFB\n",
+        &mut sheet,
+    );
+    quick_case(
+        b"trailing",
+        b"01010101000000640064\n020100010004FFFC\n\n",
+        &mut sheet,
+    );
+}
+
+fn main() {
+    let book = b"0101030400000064000A\n0201000500050005\n020100050004FFFC\n0201000400040000\n";
+    refused_books();
+    let mut short = [46u8; 47];
+    quick_case(b"no sheet", book, &mut short);
+    let mut sheet = [46u8; 60];
+    quick_case(b"example", book, &mut sheet);
+    reader_case(
+        b"quick sheet",
+        book,
+        b"040000000900000003000101\n0500000008FFFFFFFC000A\n",
+    );
+    reader_case(
+        b"plan",
+        book,
+        b"040000000A0000000E010100\n050000000900000001000A\n",
+    );
+    reader_case(
+        b"foreign, c above o",
+        book,
+        b"040000000A0000000E020100\n050000000900000001000A\n",
+    );
+    reader_case(
+        b"foreign, sum",
+        book,
+        b"040000000A0000000E010100\n050000000800000001000A\n",
+    );
+    reader_case(
+        b"foreign, worth",
+        book,
+        b"040000000B0000000E010100\n050000000900000001000A\n",
+    );
+    reader_case(
+        b"foreign, short",
+        book,
+        b"040000000A0000000E010100\n050000000900000001000A",
+    );
+    reader_case(
+        b"foreign, long",
+        book,
+        b"040000000A0000000E010100\n050000000900000001000A\n\n",
+    );
+    reader_case(b"torn book", b"0101", b"");
+}

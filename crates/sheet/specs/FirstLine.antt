@@ -1,0 +1,20 @@
+-- What the sheet reader finds on a sheet: the numbers on its first line, and whether its bytes are those that are due.
+use Prim.Native.Nat.{ℕ}
+use mathlib.Core.Path.{_≡_}
+use mathlib.Core.Bool.{Bool, true, false}
+use mathlib.Core.List.{List}
+use mathlib.Core.Option.{none, some}
+use Rattle.model.specs.Book.{Problem}
+use Rattle.model.specs.SheetReader.{choiceFrom}
+use Rattle.model.specs.Values.{Picked, choiceOf}
+
+-- each number is one of its load's, and the choice on the sheet is that of the numbers; or there is no choice on it
+pub record PicksOn (sheet : List ℕ) (b : Problem) (ok : Bool) (picks : List ℕ) : Type 0 where
+  pub picked : ok ≡ true → Picked b picks
+  pub found : ok ≡ true → choiceFrom sheet 0 (b .loads) ≡ some (choiceOf b picks)
+  pub lost : ok ≡ false → choiceFrom sheet 0 (b .loads) ≡ none
+
+-- whether the bytes are those that are due
+pub record Belongs (sheet due : List ℕ) (is : Bool) : Type 0 where
+  pub same : is ≡ true → sheet ≡ due
+  pub known : sheet ≡ due → is ≡ true
