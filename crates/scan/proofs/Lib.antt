@@ -1,0 +1,4 @@
+-- Laws about the definitions of specs/, by subject.
+pub mod SlotLaws
+pub mod BestLaws
+pub mod ScanLaws

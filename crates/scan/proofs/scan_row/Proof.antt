@@ -1,0 +1,88 @@
+-- `scan::scan_row` meets its contract. The invariant: `best` is the best of `first` and of the admitted cells before column col.
+-- Assumes nothing.
+use mathlib.Core.Path.{_≡_, _∙_, sym, ap}
+use mathlib.Core.Logic.{⊎-elim}
+use Prim.Native.Nat.{_+_, _-_, _≤_}
+use native.Mathlib.Omega.{arith}
+use borrow.Author.Needs.{needs}
+use Rattle.model.proofs.OrderLaws.{join}
+use Rattle.model.proofs.CellLaws.{joinUpto}
+use Rattle.table.specs.Table.{keyOf}
+use Rattle.scan.specs.Scan.{SlotsHeld, admittedIn}
+use Rattle.scan.proofs.BestLaws.{row-start, row-better, row-less, row-past}
+use Rattle.scan.proofs.scan_row.Statement.{statement}
+use Rattle.scan.proofs.scan_row.Tie as tie
+
+abbrev Inv-loop : tie.InvT-loop
+Inv-loop work at low high row slots count steps tops widths limits best₀ col₀ best col =
+    (low ≤ col)
+    × ((h : SlotsHeld slots count steps tops widths limits) → keyOf best ≡ join (keyOf best₀) (joinUpto col (admittedIn (h .ss) work at low high row)))
+
+abbrev μ-loop : tie.MeasureT-loop
+μ-loop work at low high row slots count steps tops widths limits best₀ col₀ best col = high - col
+
+loop-holds : tie.Need-loop-holds Inv-loop μ-loop
+loop-holds c =
+    let a = c .before .args in
+    (omega arith, λ h. row-start (h .ss) (a .work .now) (a .at) (a .low) (a .high) (a .row) (keyOf (a .first)))
+
+add-worth : tie.Need-add-worth Inv-loop μ-loop
+add-worth c = search needs
+
+mul-worth : tie.Need-mul-worth Inv-loop μ-loop
+mul-worth c = search needs
+
+mul-worth-2 : tie.Need-mul-worth-2 Inv-loop μ-loop
+mul-worth-2 c = search needs
+
+shared-slice-read-worth : tie.Need-shared-slice-read-worth Inv-loop μ-loop
+shared-slice-read-worth c = search needs
+
+add-better-at : tie.Need-add-better-at Inv-loop μ-loop
+add-better-at c = search needs
+
+better-at-requires : tie.Need-better-at-requires Inv-loop μ-loop
+better-at-requires c κs = search needs
+
+add-col : tie.Need-add-col Inv-loop μ-loop
+add-col c = search needs
+
+loop-less : tie.Need-loop-less Inv-loop μ-loop
+loop-less c = omega arith
+
+loop-again : tie.Need-loop-again Inv-loop μ-loop
+loop-again c =
+    let a = c .before .before .before .before .before .before .args in
+    let l = c .before .before .before .before .loop in
+    let k = c .before .before .before .loop-test .taken in (
+      omega arith,
+      λ h.
+          ⊎-elim
+          (λ w. ap keyOf (w .2) ∙ row-better (h .ss) (a .work .now) (a .at) (a .low) (a .high) (a .row) (keyOf (a .first)) (l .col) (l .best) (w .1 .result) (l .inv .0) k (l .inv .1 h) (w .1 .ensures h))
+          (λ w. ap keyOf (w .1) ∙ row-less (h .ss) (a .work .now) (a .at) (a .low) (a .high) (a .row) (keyOf (a .first)) (l .col) (l .best) (l .inv .0) k (l .inv .1 h) (w .0 .left))
+          (c .if1 .came),
+    )
+
+returns : tie.Need-returns Inv-loop μ-loop
+returns c =
+    let a = c .before .before .before .args in
+    let l = c .before .loop in
+    λ h width k. row-past (h .ss) (a .work .now) (a .at) (a .low) (a .high) (a .row) (keyOf (a .first)) (l .col) width (c .loop-test .left) k (l .inv .1 h)
+
+pub scan-row-spec : {M : Type 1} → statement M
+scan-row-spec =
+    tie.close
+    (tie.spec
+    Inv-loop
+    μ-loop
+    loop-holds
+    add-worth
+    mul-worth
+    mul-worth-2
+    shared-slice-read-worth
+    add-better-at
+    better-at-requires
+    add-col
+    loop-less
+    loop-again
+    returns)

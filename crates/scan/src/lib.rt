@@ -1,0 +1,214 @@
+// The last step of the planner: the best cell of the last layer that every slot admits.
+use pass::Grid;
+use table::Cell;
+ghost use mathlib.Core.Path.{_≡_};
+ghost use mathlib.Core.Bool.{cond};
+ghost use mathlib.Core.Option.{none};
+ghost use Prim.Native.Nat.{ℕ, _+_, _-_, _*_, _<_, _≤_};
+ghost use lib.Dec.{leb};
+ghost use lib.IntN.{subℕ};
+ghost use lib.ListN.{length};
+ghost use Rattle.model.specs.Choice.{square};
+ghost use Rattle.model.specs.Grid.{leastAbs};
+ghost use Rattle.model.proofs.OrderLaws.{join};
+ghost use Rattle.model.proofs.CellLaws.{joinUpto};
+ghost use Rattle.model.proofs.IndexLaws.{gridFrom};
+ghost use Rattle.model.proofs.RecurrenceLaws.{admitsAll};
+ghost use Rattle.table.specs.Table.{cellAt, keyOf};
+ghost use Rattle.pass.specs.Pass.{GridFits, StretchesFit};
+ghost use Rattle.scan.specs.Scan.{PairFits, SlotsHeld, Better, admittedIn, bestOfLayer};
+
+// The least |q| of bL ≤ q ≤ bL + e, where `raised` is b + zero, `step` is L and `spread` is e.
+fn nearest(raised: u64, zero: u64, step: u64, spread: u64) -> u64
+    requires { ⌜ (raised + zero) * step ≤ 3342285 ⌝ }
+    ensures { λ r. ⌜ (r ≡ leastAbs step spread (subℕ raised zero)) × (r ≤ 3342285) ⌝ }
+{
+    if zero <= raised {
+        return (raised - zero) * step;
+    }
+    let size = (zero - raised) * step;
+    if size < spread {
+        return 0;
+    }
+    size - spread
+}
+
+// Whether a slot is admitted at the grid pair (a, b), where `raised` is b + R + N, `top` is R and `count` is N.
+fn admits_pair(a: u64, raised: u64, step: u64, top: u64, count: u64, limit: u64) -> bool
+    requires { ⌜ PairFits a raised step top count limit ⌝ }
+    ensures { λ r. ⌜ r ≡ leb (square (a * step) + square (leastAbs step (count * (step - 1)) (subℕ raised (top + count)))) (square limit) ⌝ }
+{
+    let p = a * step;
+    let q = nearest(raised, top + count, step, count * (step - 1));
+    p * p + q * q <= limit * limit
+}
+
+// Whether every slot is admitted at the cell of a row and a column.
+fn admits_cell(
+    row: usize,
+    col: usize,
+    slots: usize,
+    count: u64,
+    steps: [u64; 4],
+    tops: [usize; 4],
+    widths: [usize; 4],
+    limits: [u64; 4],
+) -> bool
+    requires { ⌜ SlotsHeld slots count steps tops widths limits ⌝ }
+    ensures { λ r. ⌜ ((h : SlotsHeld slots count steps tops widths limits) → r ≡ admitsAll (h .ss) (gridFrom 1 (h .ss) row col)) ⌝ }
+{
+    let mut a = row;
+    let mut b = col;
+    let mut t: usize = 0;
+    while t < slots {
+        let top = tops[t];
+        let width = widths[t];
+        if !admits_pair(
+            (a % top) as u64,
+            (b % width) as u64,
+            steps[t],
+            (top - 1) as u64,
+            count,
+            limits[t],
+        ) {
+            return false;
+        }
+        a = a / top;
+        b = b / width;
+        t += 1;
+    }
+    true
+}
+
+// Whether a cell is better than the best so far: greater worth, then smaller code. An empty cell is not.
+fn beats(c: Cell, best: Cell) -> bool
+    ensures { λ r. ⌜ Better best c r ⌝ }
+{
+    if c.worth == 0 {
+        return false;
+    }
+    if c.worth == best.worth {
+        return c.code < best.code;
+    }
+    best.worth < c.worth
+}
+
+// The best so far after the cell x, of a row and a column. Admission is the dear test, and comes last.
+fn better_at(
+    work: &[u64],
+    x: usize,
+    best: Cell,
+    row: usize,
+    col: usize,
+    slots: usize,
+    count: u64,
+    steps: [u64; 4],
+    tops: [usize; 4],
+    widths: [usize; 4],
+    limits: [u64; 4],
+) -> Cell
+    requires { ⌜ 2 * x + 1 < length (now work) ⌝ }
+    requires { ⌜ SlotsHeld slots count steps tops widths limits ⌝ }
+    ensures { λ r. ⌜ ((h : SlotsHeld slots count steps tops widths limits)
+        → keyOf r ≡ join (keyOf best) (cond (admitsAll (h .ss) (gridFrom 1 (h .ss) row col)) (keyOf (cellAt (now (work .entry)) x)) none)) ⌝ }
+{
+    let c = table::get(work, x);
+    if !beats(c, best) {
+        return best;
+    }
+    if admits_cell(row, col, slots, count, steps, tops, widths, limits) {
+        return c;
+    }
+    best
+}
+
+// The best so far after a row whose cells start at `at`, and of which the stretch from `low` to `high` is held.
+pub fn scan_row(
+    work: &[u64],
+    at: usize,
+    low: usize,
+    high: usize,
+    row: usize,
+    first: Cell,
+    slots: usize,
+    count: u64,
+    steps: [u64; 4],
+    tops: [usize; 4],
+    widths: [usize; 4],
+    limits: [u64; 4],
+) -> Cell
+    requires { ⌜ 2 * (at + high) ≤ length (now work) ⌝ }
+    requires { ⌜ SlotsHeld slots count steps tops widths limits ⌝ }
+    ensures { λ r. ⌜ ((h : SlotsHeld slots count steps tops widths limits) (width : ℕ) → high ≤ width
+        → keyOf r ≡ join (keyOf first) (joinUpto width (admittedIn (h .ss) (now (work .entry)) at low high row))) ⌝ }
+{
+    let mut best = first;
+    let mut col = low;
+    while col < high {
+        let worth = work[2 * (at + col)];
+        if best.worth <= worth {
+            best = better_at(
+                work,
+                at + col,
+                best,
+                row,
+                col,
+                slots,
+                count,
+                steps,
+                tops,
+                widths,
+                limits,
+            );
+        }
+        col += 1;
+    }
+    best
+}
+
+// The best admitted cell of the layer at `cur`; empty where no cell is admitted.
+pub fn scan(
+    work: &[u64],
+    grid: Grid,
+    cur: usize,
+    lows: &[usize; 724],
+    highs: &[usize; 724],
+    count: u64,
+    steps: [u64; 4],
+    widths: [usize; 4],
+    limits: [u64; 4],
+) -> Cell
+    requires { ⌜ GridFits grid ⌝ }
+    requires { ⌜ 2 * (cur + grid .cells) ≤ length (now work) ⌝ }
+    requires { ⌜ StretchesFit (now lows) (now highs) grid ⌝ }
+    requires { ⌜ SlotsHeld (grid .slots) count steps (grid .tops) widths limits ⌝ }
+    ensures { λ r. ⌜ ((h : SlotsHeld (grid .slots) count steps (grid .tops) widths limits)
+        → keyOf r ≡ bestOfLayer (h .ss) (now (work .entry)) (now (lows .entry)) (now (highs .entry)) grid cur) ⌝ }
+{
+    let rows = grid.rows;
+    let width = grid.width;
+    let slots = grid.slots;
+    let tops = grid.tops;
+    let mut best = Cell { worth: 0, code: 0 };
+    let mut row: usize = 0;
+    while row < rows {
+        let low = lows[row];
+        let high = highs[row];
+        best = scan_row(
+            work,
+            cur + row * width,
+            low,
+            high,
+            row,
+            best,
+            slots,
+            count,
+            steps,
+            tops,
+            widths,
+            limits,
+        );
+        row += 1;
+    }
+    best
+}
