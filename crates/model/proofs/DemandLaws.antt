@@ -197,7 +197,7 @@ planned-sheet book words room s e =
     let x : (b : Problem) × (fittingBook book words room ≡ done b) × (planSheet b ≡ done s) = then-done (fittingBook book words room) planSheet s e in
     let b : Problem = x .0 in
     let reads : readBook book ≡ done b = fitting-read book words room b (x .1) .0 in
-    let d : (c : Choice) × (plan b ≡ some c) = plan-some book b reads in
+    let d : (c : Choice) × (plan b ≡ some c) = plan-some b (book-valid book b reads) in
     let w : sheetOf b (choiceOr (plan b)) (trials b) ≡ s
     = done-same (sheetOf b (choiceOr (plan b)) (trials b)) s
     (checked-done 0 (first (spent b)) (done (sheetOf b (choiceOr (plan b)) (trials b))) s (x .2) .1) in

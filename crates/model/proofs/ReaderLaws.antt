@@ -215,13 +215,13 @@ best-none (c ∷ cs) e = go (best cs) e
     go none q = absurd (Option·some-ne-none c q)
     go (some d) q = absurd (Option·some-ne-none (cond (better d c) d c) q)
 
--- a book that was read has a plan
-pub plan-some : (bytes : List ℕ) (b : Problem) → readBook bytes ≡ done b → (d : Choice) × (plan b ≡ some d)
+-- a valid book has a plan
+pub plan-some : (b : Problem) → ValidBook b → (d : Choice) × (plan b ≡ some d)
 unfolding plan bestAdmitted
-plan-some bytes b e = go (plan b) refl
+plan-some b valid = go (plan b) refl
   where
     idle : Every Idle (b .loads)
-    idle = book-valid bytes b e .loads .idle
+    idle = valid .loads .idle
 
     go : (m : Option Choice) → plan b ≡ m → (d : Choice) × (plan b ≡ some d)
     go (some d) q = (d, q)

@@ -36,7 +36,7 @@ sizeRules b words room =
 unfoldable pub fittingBook : List ℕ → ℕ → ℕ → Result Problem
 fittingBook bytes words room = andThen (readBook bytes) (λ b. checked 0 (first (sizeRules b words room)) (done b))
 
--- a choice is always admitted (proofs/PlanLaws, `plan-some`), so `none` does not occur
+-- a choice is always admitted (proofs/ReaderLaws, `plan-some`), so `none` does not occur
 abbrev pub choiceOr : Option Choice → Choice
 choiceOr none = []
 choiceOr (some c) = c

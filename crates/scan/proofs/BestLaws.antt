@@ -2,23 +2,21 @@
 -- Assumes nothing.
 use Prim.Native.Nat.{ℕ, zero, suc, _+_, _-_, _*_, _<_, _≤_}
 use mathlib.Core.Path.{_≡_, refl, sym, ap, ap₂, _∙_}
-use mathlib.Core.Bool.{Bool, true, false, cond, _&&_, _||_}
+use mathlib.Core.Bool.{Bool, true, false, cond}
 use mathlib.Core.List.{List}
 use mathlib.Core.Option.{Option, none, some}
-use native.Mathlib.Nat.{le-antisymm}
 use native.Mathlib.Numerals.{add-one}
 use native.Mathlib.Omega.{arith}
 use borrow.Author.Tests.{eq-eqb, ne-eqb, lt-ltb, le-ltb, ltb-true, ltb-false}
-use lib.Dec.{ltb, eqb}
-use lib.ListN.{length, getD}
+use lib.Dec.{ltb}
+use lib.ListN.{getD}
 use Rattle.model.specs.Grid.{Slot}
-use Rattle.model.proofs.OrderLaws.{Key, beats, better₂, join, join-none, join-assoc}
+use Rattle.model.proofs.OrderLaws.{Key, join, join-none, join-assoc}
 use Rattle.model.proofs.CellLaws.{joinUpto}
 use Rattle.model.proofs.IndexLaws.{gridFrom}
 use Rattle.model.proofs.RecurrenceLaws.{admitsAll}
 use Rattle.table.specs.declared.Cell.{Cell}
 use Rattle.table.specs.Table.{cellAt, keyIf, keyOf}
-use Rattle.pass.specs.Pass.{heldIn}
 use Rattle.pass.proofs.KeyLaws.{upto-none}
 use Rattle.pass.proofs.SourceLaws.{held-in, held-low, held-high}
 use Rattle.scan.specs.Scan.{Better, admittedIn}
@@ -158,7 +156,7 @@ module _ (ss : List Slot) (ws : List ℕ) (at low high row : ℕ) where
   -- after a start y, the best of the columns before col
   module _ (y : Option Key) (col : ℕ) where
     -- one cell more
-    row-next : {x z : Option Key} → low ≤ col → col < high → x ≡ join y (joinUpto col (admittedIn ss ws at low high row))
+    pub row-next : {x z : Option Key} → low ≤ col → col < high → x ≡ join y (joinUpto col (admittedIn ss ws at low high row))
         → z ≡ join x (cond (admitsAll ss (gridFrom 1 ss row col)) (keyOf (cellAt ws (at + col))) none)
         → z ≡ join y (joinUpto (col + 1) (admittedIn ss ws at low high row))
     row-next l k e q =
@@ -166,11 +164,6 @@ module _ (ss : List Slot) (ws : List ℕ) (at low high row : ℕ) where
         ∙ ap₂ join e (admitted-in col l k)
         ∙ sym (join-assoc y (joinUpto col (admittedIn ss ws at low high row)) (admittedIn ss ws at low high row col))
         ∙ sym (ap (λ n. join y (joinUpto n (admittedIn ss ws at low high row))) (add-one col))
-
-    pub row-better : (best r : Cell) → low ≤ col → col < high → keyOf best ≡ join y (joinUpto col (admittedIn ss ws at low high row))
-        → keyOf r ≡ join (keyOf best) (cond (admitsAll ss (gridFrom 1 ss row col)) (keyOf (cellAt ws (at + col))) none)
-        → keyOf r ≡ join y (joinUpto (col + 1) (admittedIn ss ws at low high row))
-    row-better best r l k e q = row-next l k e q
 
     -- a cell of less worth is passed over
     pub row-less : (best : Cell) → low ≤ col → col < high → keyOf best ≡ join y (joinUpto col (admittedIn ss ws at low high row))

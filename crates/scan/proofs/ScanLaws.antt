@@ -1,8 +1,8 @@
 -- Laws of `scan`: the rows one after the other, and that the best admitted cell of the last layer is the plan.
 -- Assumes nothing.
-use Prim.Native.Nat.{ℕ, zero, suc, _+_, _-_, _*_, _/_, _%_, _<_, _≤_}
+use Prim.Native.Nat.{ℕ, zero, suc, _+_, _*_, _/_, _%_, _<_, _≤_}
 use mathlib.Core.Path.{_≡_, refl, sym, ap, ap₂, _∙_}
-use mathlib.Core.Bool.{Bool, cond}
+use mathlib.Core.Bool.{cond}
 use mathlib.Core.List.{List, [], _∷_}
 use mathlib.Core.Option.{Option, none}
 use native.Mathlib.Nat.{le-antisymm, suc-mul, add-zero, add-suc, div-le-self, max-le}
@@ -18,12 +18,12 @@ use Rattle.model.proofs.OrderLaws.{Key, join, join-none, join-assoc}
 use Rattle.model.proofs.CellLaws.{joinUpto}
 use Rattle.model.proofs.IndexLaws.{columnCount, gridFrom, gridAt}
 use Rattle.model.proofs.RecurrenceLaws.{key?, admitsAll}
-use Rattle.model.proofs.TableLaws.{cellBest, cellCount, plan-cells}
+use Rattle.model.proofs.TableLaws.{cellBest, plan-cells}
 use Rattle.table.specs.declared.Cell.{Cell}
 use Rattle.table.specs.Table.{keyOf}
 use Rattle.pass.specs.declared.Grid.{Grid}
 use Rattle.pass.specs.declared.LoadMoves.{LoadMoves}
-use Rattle.pass.specs.Pass.{held, heldIn, GridFits, StretchesFit}
+use Rattle.pass.specs.Pass.{held, GridFits}
 use Rattle.pass.proofs.SourceLaws.{row-end}
 use Rattle.pass.proofs.LayerLaws.{join-same}
 use Rattle.search.specs.Search.{SlotsIn, Modelled, LayerIs}

@@ -1,7 +1,7 @@
 -- Laws of `nearest`, `admits_pair` and `admits_cell`: one slot's test, and the slots one after the other.
 -- Assumes nothing.
 use Prim.Native.Nat.{ℕ, zero, suc, _+_, _-_, _*_, _/_, _%_, _<_, _≤_}
-use mathlib.Core.Path.{_≡_, refl, sym, ap, ap₂, _∙_}
+use mathlib.Core.Path.{_≡_, sym, ap, ap₂, _∙_}
 use mathlib.Core.Bool.{Bool, true, false, _&&_}
 use mathlib.Core.List.{List, [], _∷_}
 use native.Mathlib.Nat.{div-add-mod', mod-lt, mul-le-mul, mul-le-mul-left, mul-le-mul-right}
@@ -12,7 +12,7 @@ use lib.IntN.{subℕ}
 use lib.ListN.{length, getD, drop}
 use lib.Seq.{drop-cons, drop-length}
 use Rattle.model.specs.Choice.{square}
-use Rattle.model.specs.Grid.{Slot, admits, leastAbs, spreadOf}
+use Rattle.model.specs.Grid.{Slot, admits, leastAbs}
 use Rattle.model.specs.Trials.{gridTop}
 use Rattle.model.proofs.IntegerLaws.{sub-pos, sub-neg}
 use Rattle.model.proofs.ListLaws.{every-at}

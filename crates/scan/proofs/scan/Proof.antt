@@ -1,5 +1,5 @@
 -- `scan::scan` meets its contract. The invariant: `best` is the best of the admitted cells of the rows before `row`. Assumes nothing.
-use mathlib.Core.Path.{_≡_, _∙_, sym, ap}
+use mathlib.Core.Path.{_≡_}
 use Prim.Native.Nat.{_+_, _*_, _-_, _≤_}
 use native.Mathlib.Omega.{arith}
 use borrow.Author.Needs.{needs}

@@ -1,15 +1,15 @@
 -- `scan::scan_row` meets its contract. The invariant: `best` is the best of `first` and of the admitted cells before column col.
 -- Assumes nothing.
-use mathlib.Core.Path.{_≡_, _∙_, sym, ap}
+use mathlib.Core.Path.{_≡_, _∙_, ap}
 use mathlib.Core.Logic.{⊎-elim}
-use Prim.Native.Nat.{_+_, _-_, _≤_}
+use Prim.Native.Nat.{_-_, _≤_}
 use native.Mathlib.Omega.{arith}
 use borrow.Author.Needs.{needs}
 use Rattle.model.proofs.OrderLaws.{join}
 use Rattle.model.proofs.CellLaws.{joinUpto}
 use Rattle.table.specs.Table.{keyOf}
 use Rattle.scan.specs.Scan.{SlotsHeld, admittedIn}
-use Rattle.scan.proofs.BestLaws.{row-start, row-better, row-less, row-past}
+use Rattle.scan.proofs.BestLaws.{row-start, row-next, row-less, row-past}
 use Rattle.scan.proofs.scan_row.Statement.{statement}
 use Rattle.scan.proofs.scan_row.Tie as tie
 
@@ -58,7 +58,7 @@ loop-again c =
       omega arith,
       λ h.
           ⊎-elim
-          (λ w. ap keyOf (w .2) ∙ row-better (h .ss) (a .work .now) (a .at) (a .low) (a .high) (a .row) (keyOf (a .first)) (l .col) (l .best) (w .1 .result) (l .inv .0) k (l .inv .1 h) (w .1 .ensures h))
+          (λ w. ap keyOf (w .2) ∙ row-next (h .ss) (a .work .now) (a .at) (a .low) (a .high) (a .row) (keyOf (a .first)) (l .col) (l .inv .0) k (l .inv .1 h) (w .1 .ensures h))
           (λ w. ap keyOf (w .1) ∙ row-less (h .ss) (a .work .now) (a .at) (a .low) (a .high) (a .row) (keyOf (a .first)) (l .col) (l .best) (l .inv .0) k (l .inv .1 h) (w .0 .left))
           (c .if1 .came),
     )

@@ -1,0 +1,124 @@
+-- What the search asks of a book, from the parts of its layout.
+-- Assumes nothing.
+use Prim.Native.Nat.{ℕ, suc, _+_, _*_, _^_, _<_, _≤_}
+use mathlib.Core.Path.{_≡_, refl, sym, ap, _∙_, subst}
+use mathlib.Core.List.{List, [], _∷_}
+use native.Mathlib.Nat.{le-refl, zero-add, pow-succ', pow-le-pow-right, mul-comm}
+use native.Mathlib.Numerals.{add-one}
+use native.Mathlib.Omega.{arith}
+use lib.ListN.{length, getD}
+use Rattle.model.specs.declared.Book.{Book}
+use Rattle.model.specs.declared.Load.{Load}
+use Rattle.model.specs.Lists.{Every}
+use Rattle.model.specs.Book.{Settings}
+use Rattle.model.specs.Grid.{Slot, slotsOf}
+use Rattle.model.specs.Trials.{cells}
+use Rattle.model.specs.Quick.{noSetting}
+use Rattle.model.specs.Valid.{Numbered, Labelled, SettingSmall}
+use Rattle.model.specs.Values.{Held, settingOf, problemOf}
+use Rattle.model.proofs.ListLaws.{every-at}
+use Rattle.model.proofs.AdmissionLaws.{slots-for}
+use Rattle.model.proofs.IndexLaws.{cells-one}
+use Rattle.model.proofs.ValueLaws.{numbered-at}
+use Rattle.model.proofs.RowLaws.{SettingBelow}
+use Rattle.pass.specs.declared.Grid.{Grid}
+use Rattle.pass.specs.declared.LoadMoves.{LoadMoves}
+use Rattle.pass.specs.declared.SettingMove.{SettingMove}
+use Rattle.pass.specs.Pass.{noMove}
+use Rattle.search.specs.Search.{movesOf, TopsAre, SlotsIn, MoveIs, LoadIs, Modelled}
+use Rattle.sums.proofs.HeldLaws.{held-valid, held-count, held-few, held-slots, held-four, held-load}
+use Rattle.layout.specs.declared.Slots.{Slots}
+use Rattle.layout.specs.declared.Extent.{Extent}
+use Rattle.layout.specs.Layout.{LoadHeld, Extended, LayoutIs}
+use Rattle.layout.proofs.SlotLaws.{slots-length}
+use Rattle.layout.proofs.MoveLaws.{load-count}
+
+-- ---- one load
+
+-- all settings passed
+pub load-all : (x : Load) (h : LoadHeld x) (slots : List Slot) (k : ℕ) (moves : List SettingMove)
+    → ((i : ℕ) → i < x .settings → MoveIs 0 slots k (settingOf (h .settings) i) (getD moves i noMove))
+    → LoadIs 0 slots k (h .settings) (record { count = x .settings; moves = moves })
+load-all x h slots k moves f =
+    record {
+      count-is = load-count x h;
+      count-fits = h .labels .few;
+      ascending = λ m n l j. omega (arith, number m (omega arith), number n j);
+      each = λ n l. f n (omega (arith, load-count x h));
+    }
+  where
+    number : (i : ℕ) → i < length (h .settings) → i ≡ getD (h .settings) i noSetting .number
+    number i l = sym (zero-add i) ∙ numbered-at 0 (h .settings) (h .labels .numbered) i l
+
+-- the settings of load k + 1 of a book's value
+unfoldable pub load-held : (v : Book) (h : Held v) (k : ℕ) (d : Load) → k < v .count → LoadHeld (getD (v .loads) k d)
+load-held v h k d l =
+    record {
+      settings = getD (problemOf v .loads) k [];
+      is = held-load v h k d (omega (arith, held-few v h));
+      labels = every-at Labelled (problemOf v .loads) [] (held-valid v h .loads .labels) k (omega (arith, held-count v h));
+      small = every-at (Every SettingSmall) (problemOf v .loads) [] (held-valid v h .loads .small) k (omega (arith, held-count v h));
+    }
+
+-- what an option counts in the code
+pub unit-small : (unit k : ℕ) → unit ≡ 4 ^ k → k < 24 → unit ≤ 70368744177664
+unit-small unit k e l =
+    let four : 0 < 4 = omega arith in
+    let few : k ≤ 23 = omega arith in
+    subst (λ n. n ≤ 70368744177664) (sym e) (pow-le-pow-right four few)
+
+pub unit-more : (unit k : ℕ) → unit ≡ 4 ^ k → unit * 4 ≡ 4 ^ (k + 1)
+unit-more unit k e = ap (λ n. n * 4) e ∙ mul-comm (4 ^ k) 4 ∙ sym (pow-succ' 4 k) ∙ ap (λ n. 4 ^ n) (sym (add-one k))
+
+-- ---- all loads
+
+setting-below : (i : ℕ) (vs : Settings) → Numbered i vs → i + length vs ≤ 4 → Every SettingSmall vs → Every (SettingBelow 65535) vs
+setting-below i [] n l s = tt
+setting-below i (v ∷ vs) n l s = ((omega (arith, s .0 .worth), omega (arith, n .0)), setting-below (suc i) vs (n .1) (omega arith) (s .1))
+
+loads-below : (loads : List Settings) → Every Labelled loads → Every (Every SettingSmall) loads → Every (Every (SettingBelow 65535)) loads
+loads-below [] a s = tt
+loads-below (vs ∷ loads) a s = (setting-below 0 vs (a .0 .numbered) (omega (arith, a .0 .few)) (s .0), loads-below loads (a .1) (s .1))
+
+tops-in : (steps tops widths limits : List ℕ) (t : ℕ) (slots : List Slot) → SlotsIn 0 steps tops widths limits t slots → TopsAre tops t slots
+tops-in steps tops widths limits t [] h = tt
+tops-in steps tops widths limits t (s ∷ slots) h = (h .0 .1, tops-in steps tops widths limits (t + 1) slots (h .1))
+
+-- THE LAYOUT of a book
+module _ (v : Book) (h : Held v) (x : Slots) (are : SlotsIn 0 (x .steps) (x .tops) (x .widths) (v .limits) 0 (slotsOf (problemOf v))) (n : ℕ)
+    (total : n ≡ cells (problemOf v)) (fits : n ≤ 1048576) (e : Extent) (extended : Extended (slotsOf (problemOf v)) e) (moves : List LoadMoves)
+    (loads : (k : ℕ) → k < v .count → LoadIs 0 (slotsOf (problemOf v)) k (getD (problemOf v .loads) k []) (movesOf moves k)) where
+  abbrev gridFor : Grid
+  gridFor = record { cells = n; width = e .width; rows = e .rows; slots = v .slots; tops = x .tops }
+
+  modelled-is : Modelled gridFor (e .origin) (length (problemOf v .loads)) moves
+  modelled-is =
+      let b = problemOf v in
+      let valid = held-valid v h in
+      record {
+        r = 0;
+        slots = slotsOf b;
+        loads = b .loads;
+        ready = record { for = slots-for b; few = le-refl (length (b .loads)); keeps = valid .loads .keeps };
+        loads-are = refl;
+        loads-fit = valid .loads-few;
+        some-load = valid .loads-some;
+        some-slot = omega (arith, slots-length v h, held-slots v h, valid .slots-some);
+        small = loads-below (b .loads) (valid .loads .labels) (valid .loads .small);
+        grid-is =
+            record {
+              slots-are = sym (slots-length v h);
+              slots-fit = omega (arith, slots-length v h, held-four v h);
+              tops-are = tops-in (x .steps) (x .tops) (x .widths) (v .limits) 0 (slotsOf b) are;
+              rows-are = extended .rows-are;
+              width-is = extended .width-is;
+              cells-are = total ∙ sym (cells-one b);
+              cells-fit = fits;
+            };
+        origin-is = extended .origin-is;
+        each = λ k l. loads k (omega (arith, held-count v h));
+      }
+
+  pub layout-is : LayoutIs (problemOf v) (record { grid = gridFor; origin = e .origin; moves = moves })
+  unfolding modelled-is
+  layout-is = record { modelled = modelled-is; ratio = refl; slots-are = refl; loads-are = refl; cells-are = total }

@@ -1,0 +1,8 @@
+-- Laws that the functions' proofs cite, by subject.
+pub mod ArrayLaws
+pub mod ValueLaws
+pub mod SlotLaws
+pub mod CountLaws
+pub mod ExtentLaws
+pub mod MoveLaws
+pub mod LayoutLaws

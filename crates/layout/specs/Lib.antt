@@ -1,0 +1,2 @@
+-- What the layout of a book is.
+pub mod Layout
