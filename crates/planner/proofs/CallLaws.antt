@@ -1,0 +1,85 @@
+-- The planner's result by cases: each refusal of 9 to 12, and the plan's sheet.
+-- Assumes nothing.
+use mathlib.Core.Path.{_≡_, refl, sym, ap, ap₂, subst, _∙_}
+use mathlib.Core.Bool.{Bool, true, false}
+use mathlib.Core.List.{List, [], _∷_, _++_}
+use mathlib.Core.Option.{Option, none, some, Option·some-injective}
+use Prim.Native.Nat.{ℕ, _*_, _<_, _≤_}
+use lib.Dec.{ltb}
+use lib.ListN.{length, drop}
+use borrow.Author.Tests.{lt-ltb, le-ltb}
+use Rattle.model.specs.declared.Refusal.{Refusal}
+use Rattle.model.specs.declared.Answer.{Answer}
+use Rattle.model.specs.declared.Refusal.the-variants.{TooManyCells, WorkTooSmall, BufferTooSmall, BudgetExceeded}
+use Rattle.model.specs.declared.Finding.the-variants.{Passed}
+use Rattle.model.specs.Refusals.{Result, refused, done, first, checked, andThen}
+use Rattle.model.specs.Book.{Problem, readBook}
+use Rattle.model.specs.Choice.{Choice}
+use Rattle.model.specs.Grid.{plan}
+use Rattle.model.specs.Trials.{cells, neededWords, trials, WordsKept}
+use Rattle.model.specs.Sheet.{Sheet, sheetOf, sheetLength}
+use Rattle.model.specs.Calls.{answerOf, bufferAfter, sizeRules, fittingBook, choiceOr, planSheet, plannerResult, freeFor, freeWords}
+use Rattle.model.proofs.RefusalLaws.{first-here, first-next, first-last}
+use Rattle.planner.specs.Planner.{fitting, fittedPlan}
+
+module _ {A B C : Type 0} where
+  then-assoc : (x : Result A) (f : A → Result B) (g : B → Result C) → andThen (andThen x f) g ≡ andThen x (λ a. andThen (f a) g)
+  then-assoc (refused r number) f g = refl
+  then-assoc (done a) f g = refl
+
+pub planner-is : (book : List ℕ) (words room : ℕ) → plannerResult book words room ≡ andThen (readBook book) (fittedPlan words room)
+unfolding plannerResult fittingBook
+planner-is book words room = then-assoc (readBook book) (fitting words room) planSheet
+
+pub free-is : (book : List ℕ) (words room : ℕ) → freeWords book words room ≡ freeFor (andThen (readBook book) (fitting words room))
+unfolding freeWords fittingBook
+free-is book words room = refl
+
+module _ (words room : ℕ) (b : Problem) where
+  pub fit-oversize : 1_048_576 < cells b → fitting words room b ≡ refused TooManyCells 0
+  unfolding sizeRules
+  fit-oversize h = ap (λ f. checked 0 f (done b)) (first-here TooManyCells _ (ltb 1_048_576 (cells b)) (lt-ltb _ _ h))
+
+  past-cells : cells b ≤ 1_048_576 → first (sizeRules b words room) ≡ first (drop 1 (sizeRules b words room))
+  unfolding sizeRules
+  past-cells h = first-next TooManyCells _ (ltb 1_048_576 (cells b)) (le-ltb _ _ h)
+
+  pub fit-cramped : cells b ≤ 1_048_576 → words < neededWords b → fitting words room b ≡ refused WorkTooSmall 0
+  unfolding sizeRules
+  fit-cramped h k = ap (λ f. checked 0 f (done b)) (past-cells h ∙ first-here WorkTooSmall _ (ltb words (neededWords b)) (lt-ltb _ _ k))
+
+  past-words : cells b ≤ 1_048_576 → neededWords b ≤ words → first (sizeRules b words room) ≡ first (drop 2 (sizeRules b words room))
+  unfolding sizeRules
+  past-words h k = past-cells h ∙ first-next WorkTooSmall _ (ltb words (neededWords b)) (le-ltb _ _ k)
+
+  pub fit-short : cells b ≤ 1_048_576 → neededWords b ≤ words → room < sheetLength b → fitting words room b ≡ refused BufferTooSmall 0
+  unfolding sizeRules
+  fit-short h k l = ap (λ f. checked 0 f (done b)) (past-words h k ∙ first-here BufferTooSmall [] (ltb room (sheetLength b)) (lt-ltb _ _ l))
+
+  pub fit-done : cells b ≤ 1_048_576 → neededWords b ≤ words → sheetLength b ≤ room → fitting words room b ≡ done b
+  unfolding sizeRules
+  fit-done h k l = ap (λ f. checked 0 f (done b)) (past-words h k ∙ first-last BufferTooSmall (ltb room (sheetLength b)) (le-ltb _ _ l))
+
+module _ (b : Problem) where
+  abbrev due : Result Sheet
+  due = done (sheetOf b (choiceOr (plan b)) (trials b))
+
+  pub plan-spent : b .budget < trials b → planSheet b ≡ refused BudgetExceeded 0
+  unfolding planSheet
+  plan-spent h = ap (λ f. checked 0 f due) (first-here BudgetExceeded [] (ltb (b .budget) (trials b)) (lt-ltb _ _ h))
+
+  pub plan-within : (c : Choice) (t : ℕ) → trials b ≤ b .budget → plan b ≡ some c → t ≡ trials b → done (sheetOf b c t) ≡ planSheet b
+  unfolding planSheet
+  plan-within c t h e q =
+      ap₂ (λ x y. done (sheetOf b x y)) (ap choiceOr (sym e)) q
+      ∙ sym (ap (λ f. checked 0 f due) (first-last BudgetExceeded (ltb (b .budget) (trials b)) (le-ltb _ _ h)))
+
+-- a refusal of the sizes: the answer, the buffer as before, and no word changed
+pub size-refused : (words : List ℕ) (before : List ℕ) (b : Problem) (r : Refusal) (a : Answer) → a ≡ answerOf (refused r 0)
+    → fitting (length words) (length before) b ≡ refused r 0
+    → (a ≡ answerOf (fittedPlan (length words) (length before) b))
+    × ((before ≡ bufferAfter (fittedPlan (length words) (length before) b) before)
+    × WordsKept (freeFor (fitting (length words) (length before) b)) words words)
+size-refused words before b r a e q =
+    let p : refused r 0 ≡ fittedPlan (length words) (length before) b = ap (λ x. andThen x planSheet) (sym q) in
+    (e ∙ ap answerOf p, (ap (λ x. bufferAfter x before) p, record { same-length = refl; kept = refl }))

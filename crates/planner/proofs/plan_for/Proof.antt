@@ -1,0 +1,64 @@
+-- `planner::plan_for` meets its contract: refusal 12, or the sheet of what the search found. Assumes nothing.
+use mathlib.Core.Path.{_≡_, sym, ap, _∙_}
+use Rattle.model.specs.Calls.{answerOf, bufferAfter}
+use Rattle.sums.proofs.HeldLaws.{held-few}
+use Rattle.planner.proofs.CallLaws.{plan-spent}
+use Rattle.planner.proofs.FoundLaws.{found-picked, found-sheet}
+use borrow.Author.Tests.{not-true, not-false}
+use native.Mathlib.Omega.{arith}
+use borrow.Author.Needs.{needs}
+use Rattle.planner.proofs.plan_for.Statement.{statement}
+use Rattle.planner.proofs.plan_for.Tie as tie
+
+search-for-requires : tie.Need-search-for-requires
+search-for-requires c κs = search needs
+
+refusal-requires : tie.Need-refusal-requires
+refusal-requires c κs = search needs
+
+same-length : tie.Need-same-length
+same-length c = search needs
+
+returns : tie.Need-returns
+returns c =
+    let s = c .before .before .before .before .before .before .before .before .before in
+    let f = c .before .before .before .before .before .search-for in
+    let e = plan-spent _ (f .ensures .0 .spent (not-true _ (c .before .if1 .taken))) in
+    (c .refusal .ensures ∙ ap answerOf (sym e), (ap (λ x. bufferAfter x (s .args .sheet .now)) (sym e), f .ensures .1))
+
+picks-of-requires : tie.Need-picks-of-requires
+picks-of-requires c κs = held-few (c .before .before .before .before .before .before .before .before .args .book) (c .before .before .before .before .before .before .before .before .pre .0)
+
+write-sheet-requires : tie.Need-write-sheet-requires
+write-sheet-requires c κs =
+    let s = c .before .before .before .before .before .before .before .before .before .before in
+    let f = c .before .before .before .before .before .before .search-for in
+    (s .pre .0, (found-picked (s .args .book) (s .pre .0) _ (f .ensures .0) (not-false _ (c .before .before .if1 .left)) _ (c .before .picks-of .ensures), s .pre .1 .1 .1 .1))
+
+same-length-2 : tie.Need-same-length-2
+same-length-2 c = search needs
+
+same-length-3 : tie.Need-same-length-3
+same-length-3 c = search needs
+
+returns-2 : tie.Need-returns-2
+returns-2 c =
+    let s = c .before .before .before .before .before .before .before .before .before .before .before .before .before in
+    let f = c .before .before .before .before .before .before .before .before .before .search-for in
+    let e = found-sheet (s .args .book) (s .pre .0) _ (f .ensures .0) (not-false _ (c .before .before .before .before .before .if1 .left)) _ (c .before .before .before .before .picks-of .ensures) in
+    let w = c .before .before .write-sheet .ensures in
+    (w .0 ∙ ap answerOf e, (w .1 ∙ ap (λ x. bufferAfter x (s .args .sheet .now)) e, f .ensures .1))
+
+pub plan-for-spec : {M : Type 1} → statement M
+plan-for-spec =
+    tie.close
+    (tie.spec
+    search-for-requires
+    refusal-requires
+    same-length
+    returns
+    picks-of-requires
+    write-sheet-requires
+    same-length-2
+    same-length-3
+    returns-2)
