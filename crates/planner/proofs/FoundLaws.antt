@@ -7,11 +7,10 @@ use mathlib.Core.Option.{some}
 use Prim.Native.Nat.{ℕ}
 use lib.ListN.{length, take}
 use Rattle.model.specs.declared.Book.{Book}
-use Rattle.model.specs.Refusals.{Result, done}
-use Rattle.model.specs.Book.{Problem}
+use Rattle.model.specs.Refusals.{done}
 use Rattle.model.specs.Choice.{Choice, codeOf}
 use Rattle.model.specs.Grid.{plan}
-use Rattle.model.specs.Sheet.{Sheet, sheetOf}
+use Rattle.model.specs.Sheet.{sheetOf}
 use Rattle.model.specs.Calls.{planSheet}
 use Rattle.model.specs.Values.{Held, problemOf, Picked, choiceOf}
 use Rattle.model.proofs.CodeLaws.{decode}

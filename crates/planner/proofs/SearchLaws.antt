@@ -26,7 +26,6 @@ use Rattle.layout.specs.Layout.{LayoutIs}
 use Rattle.sums.proofs.HeldLaws.{held-valid, held-count}
 use Rattle.scan.specs.Scan.{SlotSmall, SlotsHeld, bestOfLayer}
 use Rattle.scan.proofs.ScanLaws.{slots-held, scan-finds, slots-small}
-use Rattle.planner.specs.declared.Search.{Search}
 use Rattle.planner.specs.Planner.{Found}
 
 -- the tops of the grid for those of the slots

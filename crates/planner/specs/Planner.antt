@@ -2,13 +2,15 @@
 use Prim.Native.Nat.{ℕ, _<_, _≤_}
 use mathlib.Core.Path.{_≡_}
 use mathlib.Core.Bool.{true, false}
+use mathlib.Core.List.{List, _++_}
 use mathlib.Core.Option.{some}
+use Rattle.model.specs.Frames.{digits}
 use Rattle.model.specs.Refusals.{Result, done, first, checked, andThen}
 use Rattle.model.specs.Book.{Problem}
 use Rattle.model.specs.Choice.{Choice, codeOf}
 use Rattle.model.specs.Grid.{plan}
 use Rattle.model.specs.Trials.{trials}
-use Rattle.model.specs.Sheet.{Sheet}
+use Rattle.model.specs.Sheet.{Sheet, lf}
 use Rattle.model.specs.Calls.{sizeRules, planSheet}
 use Rattle.planner.specs.declared.Search.{Search}
 
@@ -25,3 +27,7 @@ pub record Found (b : Problem) (v : Search) : Type 0 where
   pub enough : v .within ≡ true → trials b ≤ b .budget
   pub counted : v .within ≡ true → v .trials ≡ trials b
   pub coded : v .within ≡ true → (c : Choice) → plan b ≡ some c → v .code ≡ codeOf c
+
+-- "one line `FF`, number (2 digits), line (4 digits), ended by LF"
+unfoldable pub refusalLine : ℕ → ℕ → List ℕ
+refusalLine number line = digits 2 255 ++ digits 2 number ++ digits 4 line ++ lf

@@ -1,9 +1,13 @@
 // The planner: the sheet of the plan, or the first refusal of 1 to 12; and what the program prints.
+mod program;
+
 use layout::Layout;
 use layout::Slots;
 use model::Answer;
 use model::Book;
 use model::Refusal;
+pub use program::Printed;
+pub use program::output;
 ghost use mathlib.Core.Path.{_≡_};
 ghost use Prim.Native.Nat.{_≤_};
 ghost use lib.ListN.{length, take};

@@ -1,7 +1,7 @@
 -- `planner::picks_of` meets its contract. The invariant: the digits so far, and then those of the rest. Assumes nothing.
-use Prim.Native.Nat.{ℕ, suc, _+_, _-_, _≤_}
-use mathlib.Core.Path.{_≡_, refl, sym, ap, ap₂, subst, _∙_}
-use mathlib.Core.List.{[], _++_, append-nil}
+use Prim.Native.Nat.{suc, _+_, _-_, _≤_}
+use mathlib.Core.Path.{_≡_, refl, sym, ap, _∙_}
+use mathlib.Core.List.{_++_, append-nil}
 use native.Mathlib.Nat.{sub-zero}
 use lib.ListN.{length, take, length-set}
 use Rattle.model.proofs.CodeLaws.{decode}

@@ -1,19 +1,16 @@
 -- `planner::plan` meets its contract: a refusal of the book is passed on, and else the book is planned. Assumes nothing.
-use mathlib.Core.Path.{_≡_, refl, sym, ap, subst, _∙_}
+use mathlib.Core.Path.{refl, sym, ap, subst, _∙_}
 use lib.ListN.{length}
 use Rattle.model.specs.declared.Answer.{Answer}
 use Rattle.model.specs.declared.Reading.{Reading}
-use Rattle.model.specs.Refusals.{andThen}
-use Rattle.model.specs.Book.{readBook}
 use Rattle.model.specs.Trials.{WordsKept}
-use Rattle.model.specs.Calls.{answerOf, bufferAfter, plannerResult, freeFor, freeWords}
+use Rattle.model.specs.Calls.{answerOf, bufferAfter, freeFor}
 use Rattle.model.specs.Demand.{Demand3}
 use Rattle.model.specs.Values.{Held, problemOf}
 use Rattle.model.proofs.DemandLaws.{demand3}
 use Rattle.model.proofs.ReadingLaws.{reading-held, reading-done, reading-refused}
 use Rattle.planner.specs.Planner.{fitting, fittedPlan}
 use Rattle.planner.proofs.CallLaws.{planner-is, free-is}
-use native.Mathlib.Omega.{arith}
 use borrow.Author.Needs.{needs}
 use Rattle.planner.proofs.plan.Statement.{statement}
 use Rattle.planner.proofs.plan.Tie as tie

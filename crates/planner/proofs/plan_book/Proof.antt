@@ -1,6 +1,5 @@
 -- `planner::plan_book` meets its contract: refusals 9 to 11 in order, and then the plan. Assumes nothing.
-use mathlib.Core.Path.{_≡_, sym, ap, subst, _∙_}
-use Prim.Native.Nat.{_*_, _<_, _≤_}
+use mathlib.Core.Path.{sym, ap, subst, _∙_}
 use lib.ListN.{length}
 use Rattle.model.specs.Refusals.{andThen}
 use Rattle.model.specs.Trials.{WordsKept}
