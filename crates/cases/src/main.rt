@@ -1,6 +1,8 @@
-// Runs the quick planner and the sheet reader on fixed books and sheets, and prints each answer. Every refusal that they can
-// give is reached: 1 to 8 with its line, 11 and 13. The stored output is what document 01 says.
+// Runs the planner, the quick planner and the sheet reader on fixed books and sheets, and prints each answer. Every refusal is
+// reached: 1 to 8 with its line, and 9 to 13. The stored output is what document 01 says.
 use libc::STDOUT_FILENO;
+ghost use mathlib.Core.Path.{_≡_};
+ghost use lib.ListN.{length};
 
 fn print(text: &[u8]) {
     io::write_all(STDOUT_FILENO, text);
@@ -83,6 +85,81 @@ fn refused_books() {
     );
 }
 
+// The planner on a book; prints the answer, and the buffer as the call left it.
+fn plan_case(name: &[u8], book: &[u8], work: &mut [u64], sheet: &mut [u8]) {
+    let a = planner::plan(book, work, sheet);
+    print(name);
+    print_field(b": plan, number ", a.number);
+    print_field(b" line ", a.line);
+    print_field(b" bytes ", a.bytes);
+    print_field(b" worth ", a.worth);
+    print_field(b" trials ", a.trials);
+    print(b"\n");
+    print(sheet);
+    print(b"\n");
+}
+
+// The words that the example needs, with something in them.
+fn enough() -> [u64; 1056]
+    ensures { λ r. ⌜ 1056 ≡ length r ⌝ }
+{
+    [77; 1056]
+}
+
+// One word less.
+fn cramped() -> [u64; 1055]
+    ensures { λ r. ⌜ 1055 ≡ length r ⌝ }
+{
+    [77; 1055]
+}
+
+// Books that the planner refuses, also with two faults: the first of 9 to 12 counts, and the buffer stays as it is.
+fn refused_plans() {
+    let book = b"0101030400000064000A\n0201000500050005\n020100050004FFFC\n0201000400040000\n";
+    let spent = b"010103040000000D000A\n0201000500050005\n020100050004FFFC\n0201000400040000\n";
+    let wide = b"0102014000000064FFFFFFFF\n020100010001000000010000\n";
+    let mut work = enough();
+    let mut less = cramped();
+    let mut sheet = [46u8; 48];
+    let mut short = [46u8; 47];
+    plan_case(b"torn", b"0101", &mut less, &mut short);
+    plan_case(b"oversize", wide, &mut less, &mut short);
+    plan_case(b"cramped", book, &mut less, &mut sheet);
+    plan_case(b"cramped, no sheet", spent, &mut less, &mut short);
+    plan_case(b"no sheet, spent", spent, &mut work, &mut short);
+    plan_case(b"spent", spent, &mut work, &mut sheet);
+}
+
+// Plans: document 01's example at its very budget, and loads that just fit, just do not, or draw nothing.
+fn plans() {
+    let mut work = enough();
+    let mut sheet = [46u8; 60];
+    plan_case(
+        b"budget 14",
+        b"010103040000000E000A\n0201000500050005\n020100050004FFFC\n0201000400040000\n",
+        &mut work,
+        &mut sheet,
+    );
+    plan_case(
+        b"both run",
+        b"01010201000000640064\n0201000300630000\n0201000300630000\n",
+        &mut work,
+        &mut sheet,
+    );
+    plan_case(
+        b"the smaller code",
+        b"01010201000000640064\n0201000300640000\n0201000300640000\n",
+        &mut work,
+        &mut sheet,
+    );
+    plan_case(
+        b"limit 0",
+        b"01010201000000640000\n0201000100000000\n0201000100010000\n",
+        &mut work,
+        &mut sheet,
+    );
+}
+
 fn main() {
     let book = b"0101030400000064000A\n0201000500050005\n020100050004FFFC\n0201000400040000\n";
     refused_books();
@@ -126,4 +203,6 @@ fn main() {
         b"040000000A0000000E010100\n050000000900000001000A\n\n",
     );
     reader_case(b"torn book", b"0101", b"");
+    refused_plans();
+    plans();
 }

@@ -1,0 +1,38 @@
+// The three public calls for programs in C and other languages: the planner, the quick planner and the sheet reader.
+use model::Answer;
+use model::SheetAnswer;
+ghost use mathlib.Core.Path.{_≡_};
+ghost use lib.ListN.{length};
+ghost use Rattle.model.specs.Trials.{WordsKept};
+ghost use Rattle.model.specs.Calls.{answerOf, bufferAfter, plannerResult, freeWords};
+ghost use Rattle.model.specs.Demand.{Demand3};
+ghost use Rattle.model.specs.Quick.{quickResult};
+ghost use Rattle.model.specs.SheetReader.{readerResult, sheetAnswerOf};
+
+// The planner: the sheet of the plan, or the first refusal of 1 to 12.
+#[no_mangle]
+pub extern "C" fn jadeshuttle_plan(book: &[u8], work: &mut [u64], sheet: &mut [u8]) -> Answer
+    ensures answer { λ r. ⌜ r ≡ answerOf (plannerResult (now (book .entry)) (length (now (work .entry))) (length (now (sheet .entry)))) ⌝ }
+    ensures bytes { λ _. ⌜ now (sheet .exit) ≡ bufferAfter (plannerResult (now (book .entry)) (length (now (work .entry))) (length (now (sheet .entry)))) (now (sheet .entry)) ⌝ }
+    ensures words { λ _. ⌜ WordsKept (freeWords (now (book .entry)) (length (now (work .entry))) (length (now (sheet .entry)))) (now (work .entry)) (now (work .exit)) ⌝ }
+    ensures demand { λ r. ⌜ (r .number ≡ 0 → Demand3 (now (book .entry)) (now (sheet .exit))) ⌝ }
+{
+    planner::plan(book, work, sheet)
+}
+
+// The quick planner: refusals 1 to 8 and 11, or the quick sheet.
+#[no_mangle]
+pub extern "C" fn jadeshuttle_quick(book: &[u8], sheet: &mut [u8]) -> Answer
+    ensures answer { λ r. ⌜ r ≡ answerOf (quickResult (now (book .entry)) (length (now (sheet .entry)))) ⌝ }
+    ensures bytes { λ _. ⌜ now (sheet .exit) ≡ bufferAfter (quickResult (now (book .entry)) (length (now (sheet .entry)))) (now (sheet .entry)) ⌝ }
+{
+    quick::quick(book, sheet)
+}
+
+// The sheet reader: the code, worth and trials of a sheet that belongs to a book, or refusal 13; the book's own refusals come first.
+#[no_mangle]
+pub extern "C" fn jadeshuttle_read_sheet(book: &[u8], sheet: &[u8]) -> SheetAnswer
+    ensures { λ r. ⌜ r ≡ sheetAnswerOf (readerResult (now (book .entry)) (now (sheet .entry))) ⌝ }
+{
+    sheet::read_sheet(book, sheet)
+}
