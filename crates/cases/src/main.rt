@@ -1,6 +1,7 @@
 // Runs the planner, the quick planner and the sheet reader on fixed books and sheets, and prints each answer. Every refusal is
 // reached: 1 to 8 with its line, and 9 to 13. The stored output is what document 01 says.
 use libc::STDOUT_FILENO;
+use model::Answer;
 ghost use mathlib.Core.Path.{_≡_};
 ghost use lib.ListN.{length};
 
@@ -13,11 +14,10 @@ fn print_field(name: &[u8], n: u64) {
     io::print_decimal(STDOUT_FILENO, n);
 }
 
-// The quick planner on a book; prints the answer, and the buffer as the call left it.
-fn quick_case(name: &[u8], book: &[u8], sheet: &mut [u8]) {
-    let a = quick::quick(book, sheet);
+// An answer, and the buffer as the call left it.
+fn print_answer(name: &[u8], call: &[u8], a: Answer, sheet: &[u8]) {
     print(name);
-    print_field(b": quick, number ", a.number);
+    print_field(call, a.number);
     print_field(b" line ", a.line);
     print_field(b" bytes ", a.bytes);
     print_field(b" worth ", a.worth);
@@ -25,6 +25,16 @@ fn quick_case(name: &[u8], book: &[u8], sheet: &mut [u8]) {
     print(b"\n");
     print(sheet);
     print(b"\n");
+}
+
+fn quick_case(name: &[u8], book: &[u8], sheet: &mut [u8]) {
+    let a = quick::quick(book, sheet);
+    print_answer(name, b": quick, number ", a, sheet);
+}
+
+fn plan_case(name: &[u8], book: &[u8], work: &mut [u64], sheet: &mut [u8]) {
+    let a = planner::plan(book, work, sheet);
+    print_answer(name, b": plan, number ", a, sheet);
 }
 
 // The sheet reader on a book and a sheet.
@@ -83,20 +93,6 @@ fn refused_books() {
         b"01010101000000640064\n020100010004FFFC\n\n",
         &mut sheet,
     );
-}
-
-// The planner on a book; prints the answer, and the buffer as the call left it.
-fn plan_case(name: &[u8], book: &[u8], work: &mut [u64], sheet: &mut [u8]) {
-    let a = planner::plan(book, work, sheet);
-    print(name);
-    print_field(b": plan, number ", a.number);
-    print_field(b" line ", a.line);
-    print_field(b" bytes ", a.bytes);
-    print_field(b" worth ", a.worth);
-    print_field(b" trials ", a.trials);
-    print(b"\n");
-    print(sheet);
-    print(b"\n");
 }
 
 // The words that the example needs, with something in them.

@@ -39,7 +39,6 @@ abbrev pub ActivesAre : List ℕ → ℕ → List Slot → Setting → Type 0
 ActivesAre active t [] v = Unit {0}
 ActivesAre active t (s ∷ slots) v = (getD active t 0 ≡ settingGrid s v .p) × ActivesAre active (t + 1) slots v
 
--- the grid is that of the slots, at ratio r + 1
 -- from place t on, the steps, the numbers of active and of reactive values, and the limits of the slots
 abbrev pub SlotsIn : ℕ → List ℕ → List ℕ → List ℕ → List ℕ → ℕ → List Slot → Type 0
 SlotsIn r steps tops widths limits t [] = Unit {0}
@@ -47,6 +46,7 @@ SlotsIn r steps tops widths limits t (s ∷ slots) =
     ((getD steps t 0 ≡ s .step) × (getD tops t 0 ≡ gridTop s + 1) × (getD widths t 0 ≡ widthOf (suc r) s) × (getD limits t 0 ≡ s .limit))
     × SlotsIn r steps tops widths limits (t + 1) slots
 
+-- the grid is that of the slots, at ratio r + 1
 pub record GridIs (r : ℕ) (slots : List Slot) (grid : Grid) : Type 0 where
   pub slots-are : grid .slots ≡ length slots
   pub slots-fit : length slots ≤ 4
