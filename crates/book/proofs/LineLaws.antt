@@ -1,7 +1,7 @@
 -- Header and load lines: where things stand on them, the settings of a load line by number, and Q plus 32,768.
 -- Assumes nothing.
-use mathlib.Core.Path.{_≡_, refl, sym, ap, ap₂, _∙_}
-use mathlib.Core.Bool.{Bool, true, false, cond, not, _&&_, _||_, false≢true}
+use mathlib.Core.Path.{_≡_, refl, sym, ap, _∙_}
+use mathlib.Core.Bool.{Bool, true, false, cond, not, _&&_, false≢true}
 use mathlib.Core.Logic.{_⊎_, inl, inr}
 use mathlib.Core.List.{List, [], _∷_, map}
 use Prim.Native.Nat.{ℕ, zero, suc, _+_, _-_, _*_, _/_, _%_, _<_, _≤_}
@@ -16,7 +16,7 @@ use Rattle.model.specs.declared.Finding.the-variants.{Passed}
 use Rattle.model.specs.Lists.{within, upto}
 use Rattle.model.specs.Frames.{signed, field}
 use Rattle.model.specs.Refusals.{first}
-use Rattle.model.specs.Book.{Power, noPower, Setting, Settings, kindRule, slotCount, loadCount, finenessIn, limitsIn, headerRules, optionCount, optionStart, powerAt, optionAt, options, standing, settings, loadRules}
+use Rattle.model.specs.Book.{noPower, kindRule, slotCount, loadCount, finenessIn, headerRules, optionCount, optionStart, powerAt, optionAt, options, settings, loadRules}
 use Rattle.model.specs.Choice.{powerIn}
 use Rattle.model.specs.Quick.{noSetting}
 use Rattle.model.specs.Values.{raised, settingOf, powerOf}

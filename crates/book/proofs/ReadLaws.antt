@@ -1,13 +1,12 @@
 -- Reading the load lines one after the other: what the lines that are left give decides what all give.
 -- Assumes nothing.
 use mathlib.Core.Path.{_≡_, refl, sym, ap, ap₂, _∙_}
-use mathlib.Core.Bool.{Bool, true, false, not}
+use mathlib.Core.Bool.{true, not}
 use mathlib.Core.Logic.{_⊎_, inl, inr}
 use mathlib.Core.List.{List, [], _∷_, _++_, map, append-assoc, append-nil}
-use Prim.Native.Nat.{ℕ, zero, suc, _+_, _-_, _*_, _<_, _≤_}
+use Prim.Native.Nat.{ℕ, suc, _+_, _-_, _*_, _<_, _≤_}
 use native.Mathlib.Nat.{sub-zero}
 use native.Mathlib.Omega.{arith}
-use lib.Dec.{ltb}
 use lib.ListN.{length, getD, take, drop, set, replicate, length-append, length-drop, List·getD-append, List·getD-eq-default}
 use lib.Seq.{take-all, drop-drop, getD-at}
 use borrow.Author.Tests.{lt-ltb, le-ltb}
@@ -16,7 +15,7 @@ use Rattle.model.specs.declared.Load.{Load}
 use Rattle.model.specs.declared.Refusal.{Refusal}
 use Rattle.model.specs.declared.Refusal.the-variants.{Unterminated, TrailingBytes}
 use Rattle.model.specs.declared.Finding.the-variants.{Passed, Refused}
-use Rattle.model.specs.Lists.{upto, isEmpty}
+use Rattle.model.specs.Lists.{upto}
 use Rattle.model.specs.Frames.{field, lineLength, lineOf, afterLine}
 use Rattle.model.specs.Refusals.{Result, refused, done, first, checked, andThen}
 use Rattle.model.specs.Book.{Settings, Problem, headerRules, readBook, slotCount, loadCount, finenessIn, budgetIn, limitsIn, problem, settings, lineRule, loadRules, endRules, readLoads}

@@ -15,10 +15,11 @@ use Rattle.book.specs.declared.LoadsReading.{LoadsReading}
 abbrev pub powerValue : Power → PowerValue
 powerValue x = record { active = x .p; reactive = raised (x .q) }
 
--- the value that holds the outcome of the load lines
+-- the values of the loads, with loads of no settings past the last
 abbrev pub loadsValue : List Settings → List Load
 loadsValue loads = map (λ k. loadValue (getD loads k [])) (upto 24)
 
+-- the value that holds the outcome of the load lines
 abbrev pub loadsReading : Result (List Settings) → LoadsReading
 loadsReading (refused r number) =
     record { answer = record { number = numberOf r; line = number; bytes = 0; worth = 0; trials = 0 }; loads = replicate 24 (loadValue []) }

@@ -13,7 +13,7 @@ ghost use lib.ListN.{length, getD};
 ghost use Rattle.model.specs.Lists.{within, upto};
 ghost use Rattle.model.specs.declared.Finding.the-variants.{Passed};
 ghost use Rattle.model.specs.Refusals.{first, refused};
-ghost use Rattle.model.specs.Book.{slotCount, limitsIn, headerRules, kindRule, optionStart, powerAt, options, settings, reactiveExceeds, someExceeds, loadRules, readLoads, readBook};
+ghost use Rattle.model.specs.Book.{limitsIn, headerRules, kindRule, optionStart, powerAt, options, settings, reactiveExceeds, someExceeds, loadRules, readLoads, readBook};
 ghost use Rattle.model.specs.Values.{settingOf, powerOf, loadValue, freshBook, readingOf};
 ghost use Rattle.book.specs.Lines.{HeaderLine, LoadLine, Room, powerValue, loadsReading, restRead};
 

@@ -156,13 +156,9 @@ fn plans() {
     );
 }
 
-fn main() {
+// Sheets that belong to the book, and sheets that do not.
+fn read_sheets() {
     let book = b"0101030400000064000A\n0201000500050005\n020100050004FFFC\n0201000400040000\n";
-    refused_books();
-    let mut short = [46u8; 47];
-    quick_case(b"no sheet", book, &mut short);
-    let mut sheet = [46u8; 60];
-    quick_case(b"example", book, &mut sheet);
     reader_case(
         b"quick sheet",
         book,
@@ -199,6 +195,16 @@ fn main() {
         b"040000000A0000000E010100\n050000000900000001000A\n\n",
     );
     reader_case(b"torn book", b"0101", b"");
+}
+
+fn main() {
+    let book = b"0101030400000064000A\n0201000500050005\n020100050004FFFC\n0201000400040000\n";
+    refused_books();
+    let mut short = [46u8; 47];
+    quick_case(b"no sheet", book, &mut short);
+    let mut sheet = [46u8; 60];
+    quick_case(b"example", book, &mut sheet);
+    read_sheets();
     refused_plans();
     plans();
 }

@@ -1,17 +1,16 @@
 -- Laws of reading, for the loops of `all_digits`, `number` and `line_length`.
 -- Assumes nothing.
 use Prim.Native.Nat.{ℕ, suc, _+_, _*_, _<_}
-use mathlib.Core.List.{List, _∷_}
-use mathlib.Core.Bool.{Bool, true, false, _&&_}
-use mathlib.Core.Path.{_≡_, ap, _∙_}
+use mathlib.Core.List.{List}
+use mathlib.Core.Bool.{Bool, true, false}
+use mathlib.Core.Path.{_≡_}
 use native.Mathlib.Numerals.{add-one}
-use native.Mathlib.Nat.{add-zero}
 use native.Mathlib.Omega.{arith}
 use borrow.Author.Tests.{eq-eqb, ne-eqb}
-use lib.ListN.{length, getD, take, drop, length-drop}
+use lib.ListN.{length, getD, drop, length-drop}
 use lib.Seq.{drop-cons, drop-length, take-suc, getD-drop}
 use Rattle.model.specs.Lists.{all}
-use Rattle.model.specs.Frames.{isDigit, digitValue, valueFrom, field, lineLength}
+use Rattle.model.specs.Frames.{isDigit, digitValue, field, lineLength}
 use Rattle.model.proofs.FrameLaws.{value-last}
 
 -- all digits: past a digit the rest decides; at another byte the answer is no; at the end yes

@@ -2,12 +2,12 @@
 -- Assumes nothing.
 use Prim.Native.Nat.{ℕ, suc, _+_, _-_, _/_, _%_, _^_, _≤_, _<_}
 use mathlib.Core.List.{List, [], _∷_, _++_, append-assoc, append-nil}
-use mathlib.Core.Path.{_≡_, refl, sym, ap, ap₂, _∙_}
+use mathlib.Core.Path.{_≡_, sym, ap, _∙_}
 use native.Mathlib.Nat.{add-zero, add-assoc, zero-add, sub-self, div-one, div-div-eq-div-mul, pow-zero, pow-suc}
 use native.Mathlib.Numerals.{add-one}
 use native.Mathlib.Omega.{arith}
 use lib.ListN.{length, getD, take, drop, set, length-append, length-take, length-drop, take-append-drop}
-use lib.Seq.{take-at, drop-at, set-at, take-suc, drop-drop, take-take, length-take-le, set-split, take-add}
+use lib.Seq.{take-at, drop-at, set-at, take-suc, drop-drop, length-take-le, take-add}
 use Rattle.model.specs.Frames.{digit, digits}
 use Rattle.hex.specs.Written.{written}
 

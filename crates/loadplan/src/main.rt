@@ -42,7 +42,7 @@ fn take_input(buf: &mut [u8]) -> Taken
     Taken { whole, count }
 }
 
-// An error of reading prints no line; the sheet or the refusal goes out in one piece.
+// A read that fails is told on standard error alone; the sheet or the refusal's line goes out in one piece.
 fn main() {
     let mut input = io::buffer();
     let taken = take_input(&mut input);

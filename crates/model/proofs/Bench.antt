@@ -17,7 +17,7 @@ use Rattle.model.specs.Trials.{cells, sameℤ, reachedCount, trials}
 use Rattle.model.specs.Sheet.{numbersOf, firstLine, slotLine, slotLines, sheetBytes}
 use Rattle.model.specs.Calls.{sizeRules, fittingBook, planSheet, plannerResult}
 use Rattle.model.specs.Quick.{optionOne, sizeOf, takeIfFits, quickChoice, quickSheet, quickResult}
-use Rattle.model.specs.Program.{printed, programOutput}
+use Rattle.model.specs.Program.{refusalLine, printed, programOutput}
 
 abbrev pub bytesOf : String → List ℕ
 bytesOf ε = []
@@ -74,7 +74,7 @@ bench =
     ∷ []
 
 pub bench-holds : all holds bench ≡ true
-unfolding holds bench programOutput plannerResult planSheet fittingBook sizeRules
+unfolding holds bench programOutput refusalLine plannerResult planSheet fittingBook sizeRules
     readBook readLoads headerRules loadRules someExceeds optionStart first isDigit digitValue digit valueFrom field digits signed unsigned lineLength
     slotsOf plan bestAdmitted cells trials reachedCount sheetBytes firstLine slotLines slotLine numbersOf quickResult quickSheet quickChoice takeIfFits sizeOf optionOne
 bench-holds = refl

@@ -6,7 +6,7 @@ use mathlib.Core.List.{List, [], _∷_, _++_, map, map-map, map-append, append-a
 use Prim.Native.Nat.{ℕ, suc, _+_, _*_, _^_, _≤_}
 use native.Mathlib.Nat.{add-zero, add-assoc, add-comm, pow-zero, pow-succ'}
 use native.Mathlib.Omega.{arith}
-use lib.IntN.{natAbs, +ℤ-idr, +ℤ-assoc, +ℤ-comm}
+use lib.IntN.{+ℤ-idr, +ℤ-assoc, +ℤ-comm}
 use lib.ListN.{length}
 use Rattle.model.specs.Lists.{Mem, Every}
 use Rattle.model.specs.Book.{Power, Setting, Settings, noPower}

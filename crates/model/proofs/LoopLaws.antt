@@ -1,14 +1,13 @@
 -- The table and the trials in the form that a loop over the loads wants: before load k + 1 they are those of the first k loads.
 -- Assumes nothing.
-use mathlib.Core.Path.{_≡_, refl, ap, _∙_}
+use mathlib.Core.Path.{_≡_, refl, ap}
 use mathlib.Core.Bool.{Bool, true, false, cond, _&&_}
 use mathlib.Core.List.{List, [], _∷_, map}
 use mathlib.Core.Option.{none, some}
-use Prim.Native.Nat.{ℕ, suc, _+_, _*_, _<_}
+use Prim.Native.Nat.{ℕ, suc, _+_, _*_}
 use native.Mathlib.Omega.{arith}
 use lib.Dec.{T, eqb, leb, le→leb}
 use lib.ListN.{length, getD, take, length-take}
-use lib.Seq.{take-suc, length-take-le}
 use Rattle.model.specs.Lists.{Every, keepIf}
 use Rattle.model.specs.Book.{Settings}
 use Rattle.model.specs.Grid.{Slot, gridsOf}
@@ -16,11 +15,10 @@ use Rattle.model.specs.Trials.{gridTop, trialsUpto}
 use Rattle.model.specs.Valid.{SettingKept}
 use Rattle.model.proofs.OrderLaws.{bestKey}
 use Rattle.model.proofs.ListLaws.{each, every-take}
-use Rattle.model.proofs.ChoiceLaws.{plusEach, settingGrids}
-use Rattle.model.proofs.RecurrenceLaws.{keyOf, bestAt, bestOver}
-use Rattle.model.proofs.CellLaws.{joinUpto, countUpto, isSome}
-use Rattle.model.proofs.IndexLaws.{indexOf, gridAt}
-use Rattle.model.proofs.TableLaws.{Ready, rangeAll, hasCell, cellBest, cellCount, cells-last, reached-cells}
+use Rattle.model.proofs.RecurrenceLaws.{keyOf, bestAt}
+use Rattle.model.proofs.CellLaws.{countUpto, isSome}
+use Rattle.model.proofs.IndexLaws.{indexOf}
+use Rattle.model.proofs.TableLaws.{Ready, rangeAll, cellBest, cellCount, reached-cells}
 
 pub ready-take : (r n : ℕ) (slots : List Slot) (loads : List Settings) (k : ℕ) → Ready r n slots loads → Ready r n slots (take k loads)
 ready-take r n slots loads k h =
@@ -44,21 +42,6 @@ cells-none r slots i = go (rangeAll slots (gridsOf slots [])) (range-none slots)
     go true t true = refl
     go true t false = refl
     go false t b = absurd t
-
--- load k + 1
-pub cells-step : (r n : ℕ) (slots : List Slot) (loads : List Settings) → Ready r n slots loads → (k : ℕ) → k < length loads → (i : ℕ)
-    → cellBest (suc r) slots (take (suc k) loads) i
-    ≡ bestOver k
-    (λ v. joinUpto (cellCount (suc r) slots)
-    (λ j. cond (hasCell (suc r) slots i (plusEach (gridAt (suc r) slots j) (settingGrids slots v))) (cellBest (suc r) slots (take k loads) j) none))
-    (getD loads k [])
-cells-step r n slots loads h k l i =
-    ap (λ ls. cellBest (suc r) slots ls i) (take-suc loads k [] l)
-    ∙ cells-last r n slots (take k loads) (getD loads k []) (ready-take r n slots loads k h) i
-    ∙ ap (λ m. bestOver m
-    (λ v. joinUpto (cellCount (suc r) slots)
-    (λ j. cond (hasCell (suc r) slots i (plusEach (gridAt (suc r) slots j) (settingGrids slots v))) (cellBest (suc r) slots (take k loads) j) none))
-    (getD loads k [])) (length-take-le k loads (omega arith))
 
 -- its trials: the cells that hold something, times its settings
 pub trials-step : (r n : ℕ) (slots : List Slot) (loads : List Settings) → Ready r n slots loads → (k : ℕ)

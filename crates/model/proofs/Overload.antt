@@ -1,8 +1,7 @@
 -- How far a slot's sums can lie from the pair that was tested. Only natural numbers: P and p are active powers, Q and q magnitudes of reactive powers.
 -- Assumes nothing.
 use Prim.Native.Nat.{ℕ, _+_, _*_, _-_, _≤_}
-use mathlib.Core.Path.{_≡_}
-use native.Mathlib.Nat.{mul-le-mul, mul-le-mul-left, le-of-mul-le-mul-left}
+use native.Mathlib.Nat.{mul-le-mul, mul-le-mul-left}
 use native.Mathlib.Omega.{arith}
 use Rattle.model.proofs.Squares.{sq-mono, sq-cancel, sq-sum}
 
@@ -22,7 +21,7 @@ module _ (P Q p q e : ℕ) (hP : P ≤ p + e) (hQ : Q ≤ q + e) where
         let x : 2 * (d * (p + q)) ≤ 3 * t = three-halves (d * (p + q)) t (omega (arith, mul-le-mul-left (d * d) (sq-sum p q))) in
         omega (arith, mul-le-mul-left (d * d) widen, mul-le-mul de x, sq-mono de)
 
-    -- M-106: 4d²(P² + Q²) ≤ (2d + 3)²S²
+    -- sharper than demand 3 asks: 4d²(P² + Q²) ≤ (2d + 3)²S²
     pub overload-sharp : p * p + q * q ≤ S * S → 4 * (d * d) * (P * P + Q * Q) ≤ (2 * d + 3) * (2 * d + 3) * (S * S)
     overload-sharp keeps =
         omega (arith, widen-scaled (d * S) (omega (arith, mul-le-mul-left (d * d) keeps)))
@@ -30,13 +29,3 @@ module _ (P Q p q e : ℕ) (hP : P ≤ p + e) (hQ : Q ≤ q + e) where
     -- demand 3: d²(P² + Q²) ≤ (d + 2)²S², from the sharper bound
     pub overload : p * p + q * q ≤ S * S → d * d * (P * P + Q * Q) ≤ (d + 2) * (d + 2) * (S * S)
     overload keeps = omega (arith, overload-sharp keeps)
-
-  -- M-109: the margin (d - 2)/d makes up for the move. Here d is f + 2
-  pub margin-from : (f S : ℕ) → (f + 2) * e ≤ S → (f + 2) * (f + 2) * (p * p + q * q) ≤ f * f * (S * S) → P * P + Q * Q ≤ S * S
-  margin-from f S de keeps =
-      le-of-mul-le-mul-left {k = (f + 2) * (f + 2)} (omega (arith, widen-scaled (f + 2) S de (f * S) (omega arith))) (omega arith)
-
-  pub margin : (d S : ℕ) → 2 ≤ d → d * e ≤ S → d * d * (p * p + q * q) ≤ (d - 2) * (d - 2) * (S * S) → P * P + Q * Q ≤ S * S
-  margin d S two de keeps =
-      let g : d - 2 + 2 ≡ d = omega arith in
-      margin-from (d - 2) S (rw g de) (rw g keeps)

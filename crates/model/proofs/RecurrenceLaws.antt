@@ -6,7 +6,6 @@ use mathlib.Core.Bool.{Bool, true, false, cond, _&&_}
 use mathlib.Core.List.{List, [], _∷_, _++_, map, map-append}
 use mathlib.Core.Option.{Option, none, some}
 use Prim.Native.Nat.{ℕ, _+_, _*_, _^_}
-use lib.Dec.{T}
 use lib.ListN.{length}
 use Rattle.model.specs.Lists.{keep, keepIf}
 use Rattle.model.specs.Book.{Power, Setting, Settings}
@@ -100,14 +99,6 @@ best-at-last slots G loads vs =
     ∙ where-extend (length loads) (λ c. G (gridsOf slots c)) vs (choices loads) (choices-sized loads)
     ∙ ap (λ old. bestOver (length loads) old vs)
     (fun-ext (λ v. ap (λ p. bestWhere p (choices loads)) (fun-ext (λ c. ap G (grids-last slots c v)))))
-
-pub best-at-none : (slots : List Slot) (G : List Power → Bool) → T (G (gridsOf slots [])) → bestAt slots G [] ≡ some (record { worth = 0; code = 0 })
-unfolding bestAt
-best-at-none slots G t = go (G (gridsOf slots [])) t
-  where
-    go : (b : Bool) → T b → bestKey (map keyOf (keepIf b [] [])) ≡ some (record { worth = 0; code = 0 })
-    go true t = refl
-    go false t = absurd t
 
 -- ---- the plan over the cells
 

@@ -6,12 +6,6 @@ use native.Mathlib.Decide.{decLe}
 use native.Mathlib.Omega.{arith}
 
 -- omega proves identities between polynomials over ℕ
-pub sq-add : (a b : ℕ) → (a + b) * (a + b) ≡ a * a + 2 * (a * b) + b * b
-sq-add a b = omega arith
-
-pub sq-mul : (a b : ℕ) → (a * b) * (a * b) ≡ (a * a) * (b * b)
-sq-mul a b = omega arith
-
 pub sq-mono : {a b : ℕ} → a ≤ b → a * a ≤ b * b
 sq-mono h = mul-le-mul h h
 
@@ -42,14 +36,3 @@ two-mul-le a b = go (decLe a b)
 
 pub sq-sum : (a b : ℕ) → (a + b) * (a + b) ≤ 2 * (a * a + b * b)
 sq-sum a b = omega (arith, two-mul-le a b)
-
--- Cauchy and Minkowski in the plane: two pairs within s and t have a sum within s + t (M-110: pooled limits)
-pub cauchy : (a b c d : ℕ) → (a * c + b * d) * (a * c + b * d) ≤ (a * a + b * b) * (c * c + d * d)
-cauchy a b c d = omega (arith, two-mul-le (a * d) (b * c))
-
-pub minkowski : (a b c d s t : ℕ) → a * a + b * b ≤ s * s → c * c + d * d ≤ t * t
-    → (a + c) * (a + c) + (b + d) * (b + d) ≤ (s + t) * (s + t)
-minkowski a b c d s t h k =
-    let m : (a * a + b * b) * (c * c + d * d) ≤ (s * s) * (t * t) = mul-le-mul h k in
-    let l : a * c + b * d ≤ s * t = sq-cancel (a * c + b * d) (s * t) (omega (arith, cauchy a b c d)) in
-    omega arith

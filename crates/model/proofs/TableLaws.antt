@@ -4,11 +4,10 @@ use mathlib.Core.Path.{_≡_, refl, sym, ap, ap₂, _∙_, subst, fun-ext}
 use mathlib.Core.Bool.{Bool, true, false, cond, _&&_, _||_}
 use mathlib.Core.List.{List, [], _∷_, _++_, map}
 use mathlib.Core.Option.{Option, none}
-use Prim.Native.Nat.{ℕ, suc, _+_, _*_, _<_, _≤_, _/_}
+use Prim.Native.Nat.{ℕ, suc, _+_, _<_, _≤_, _/_}
 use native.Mathlib.Nat.{le-trans, le-add-right}
 use native.Mathlib.Omega.{arith}
 use lib.Dec.{T, leb, leb→le, le→leb, eqb, eqb→eq}
-use lib.IntN.{natAbs}
 use lib.ListN.{length}
 use Rattle.model.specs.Lists.{Every, product, keep, keepIf, any, sameLists}
 use Rattle.model.specs.Book.{Power, Setting, Settings}

@@ -54,7 +54,7 @@ budgetIn line = field line 8 8
 abbrev pub limitsIn : List ℕ → List ℕ
 limitsIn line = map (λ s. field line (16 + 4 * s) 4) (upto (slotCount line))
 
--- the header's line, and the loads
+-- the book that a header line and the loads after it give
 abbrev pub problem : List ℕ → List Settings → Problem
 problem line loads =
     record { fineness = finenessIn line; budget = budgetIn line; limits = limitsIn line; loads = loads }
@@ -103,7 +103,7 @@ hexRule line = not (all isDigit line) ⇒ NotHex
 abbrev pub kindRule : ℕ → List ℕ → Rule
 kindRule kind line = ltb (length line) 4 || not (eqb (field line 0 2) kind) ⇒ WrongKind
 
--- 4: "T not 1 to 4"; 5: "number of digits not the stated one"; 6: "N or d outside its range"
+-- 4: "T not 1 to 4"; 5: "number of digits not the stated one"; 6: "N or d outside its range": "N is the number of loads, 1 to 24. d, the fineness, is 1 to 64."
 unfoldable pub headerRules : List ℕ → List Rule
 headerRules line =
     hexRule line
@@ -135,7 +135,7 @@ loadRules t line =
 abbrev pub endRules : List ℕ → List Rule
 endRules bytes = (not (isEmpty bytes) ⇒ TrailingBytes) ∷ []
 
--- the loads on the lines that are due, of which the next has this number; then nothing follows
+-- the loads on the lines that are due, of which the next has this number; after them 8, whose line is "N + 2", as the load lines are 2 to N + 1
 unfoldable pub readLoads : ℕ → ℕ → ℕ → List ℕ → Result (List Settings)
 readLoads t zero number bytes = checked number (first (endRules bytes)) (done [])
 readLoads t (suc left) number bytes =

@@ -1,4 +1,5 @@
--- What the planner answers, and what it leaves in the lent bytes and words (document 01, "The sheet", "Refusals by number" 9 to 12).
+-- What a planner answers and leaves in the lent bytes, and which words the planner may change (document 01, "The sheet", "Trials and the work area",
+-- "Refusals by number" 9 to 12).
 use Prim.Native.Nat.{ℕ}
 use mathlib.Core.List.{List, [], _∷_, _++_}
 use mathlib.Core.Option.{Option, none, some}
@@ -24,7 +25,7 @@ abbrev pub bufferAfter : Result Sheet → List ℕ → List ℕ
 bufferAfter (refused r number) before = before
 bufferAfter (done s) before = s .bytes ++ drop (length (s .bytes)) before
 
--- 9: "cells over 1,048,576"; 10: "work area under 4 × cells words"; 11: "buffer shorter than the sheet"
+-- "Then 8 to 13", with line 0. 9: "cells over 1,048,576"; 10: "work area under 4 × cells words"; 11: "buffer shorter than the sheet"
 unfoldable pub sizeRules : Problem → ℕ → ℕ → List Rule
 sizeRules b words room =
     (ltb 1_048_576 (cells b) ⇒ TooManyCells)
@@ -32,21 +33,25 @@ sizeRules b words room =
     ∷ (ltb room (sheetLength b) ⇒ BufferTooSmall)
     ∷ []
 
--- the book, after refusals 1 to 11, for a work area of so many words and a buffer with room for so many bytes
-unfoldable pub fittingBook : List ℕ → ℕ → ℕ → Result Problem
-fittingBook bytes words room = andThen (readBook bytes) (λ b. checked 0 (first (sizeRules b words room)) (done b))
+-- a book that was read, after refusals 9 to 11, for a work area of so many words and a buffer with room for so many bytes
+abbrev pub fitting : ℕ → ℕ → Problem → Result Problem
+fitting words room b = checked 0 (first (sizeRules b words room)) (done b)
 
--- a choice is always admitted (proofs/ReaderLaws, `plan-some`), so `none` does not occur
+-- the book, after refusals 1 to 11
+unfoldable pub fittingBook : List ℕ → ℕ → ℕ → Result Problem
+fittingBook bytes words room = andThen (readBook bytes) (fitting words room)
+
+-- "The choice of all standing always is" admitted, so a book that was read has a plan (proofs/ReaderLaws, `plan-some`) and `none` does not occur
 abbrev pub choiceOr : Option Choice → Choice
 choiceOr none = []
 choiceOr (some c) = c
 
--- 12: "trials over the budget"; else the plan's sheet, with the book's trials
+-- 12: "trials over the budget"; else the plan's sheet. "The result carries the planner's count, and it equals this number"
 unfoldable pub planSheet : Problem → Result Sheet
 planSheet b =
     checked 0 (first ((ltb (b .budget) (trials b) ⇒ BudgetExceeded) ∷ [])) (done (sheetOf b (choiceOr (plan b)) (trials b)))
 
--- the planner's result
+-- the planner's result, of the book's bytes, the number of words and the room: "no answer depends on what they held before"
 unfoldable pub plannerResult : List ℕ → ℕ → ℕ → Result Sheet
 plannerResult bytes words room = andThen (fittingBook bytes words room) planSheet
 

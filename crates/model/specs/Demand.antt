@@ -1,16 +1,17 @@
--- Demand 3, of the book's bytes and the bytes of the sheet buffer after a call that gave a sheet.
+-- The buyer's demand 3, of the book's bytes and the bytes of the sheet buffer after a call that gave a sheet. That there is a sheet "whenever no
+-- refusal applies" follows from `plannerResult` (proofs/DemandLaws, `answers`).
 use Prim.Native.Nat.{ℕ, _+_, _*_, _<_, _≤_}
 use mathlib.Core.Path.{_≡_}
 use mathlib.Core.List.{List}
 use lib.ListN.{length, getD}
 use Rattle.model.specs.Frames.{field}
-use Rattle.model.specs.Refusals.{Result, done}
+use Rattle.model.specs.Refusals.{done}
 use Rattle.model.specs.Book.{Problem, readBook, standing}
-use Rattle.model.specs.Choice.{Choice, IsChoice, worthOf, sumIn, square, squareℤ}
+use Rattle.model.specs.Choice.{Choice, IsChoice, worthOf, sumIn, square, apparentSquared}
 
 -- P² + Q², of a choice's true sums in a slot; slots are counted from 0 to T - 1
 abbrev pub P²+Q² : ℕ → Choice → ℕ
-P²+Q² slot c = square (sumIn slot c .p) + squareℤ (sumIn slot c .q)
+P²+Q² slot c = apparentSquared (sumIn slot c)
 
 -- the limit there
 abbrev pub S : Problem → ℕ → ℕ
@@ -37,6 +38,7 @@ pub record Demand3 (book sheet : List ℕ) : Type 0 where
   -- "the sheet's choice is worth at least as much as every other choice that keeps P² + Q² ≤ S² in every slot"
   pub worth : (other : Choice) → IsChoice (b .loads) other → ((slot : ℕ) → slot < T b → P²+Q² slot other ≤ square (S b slot))
       → worthOf other ≤ worthOf choice
+  -- the next two have no condition on other choices: "whether or not another choice keeps the limits"
   -- "it keeps d²(P² + Q²) ≤ (d + 2)²S² in every slot"
   pub overload : (slot : ℕ) → slot < T b → square (b .fineness) * P²+Q² slot choice ≤ square (b .fineness + 2) * square (S b slot)
   -- "and P² + Q² ≤ S² in every slot where S < 2Nd"

@@ -1,9 +1,9 @@
 -- Frames (document 01, "The book"): "lines of hexadecimal digits 0-9 A-F, one frame a line, each ended by one LF (byte 0A). Two digits make
 -- 8 bits; the highest digit comes first."
 use Prim.Native.Nat.{ℕ, zero, suc, _+_, _*_, _-_, _/_, _%_, _^_}
-use mathlib.Core.Bool.{Bool, true, false, cond, _||_}
+use mathlib.Core.Bool.{Bool, cond, _||_}
 use mathlib.Core.List.{List, [], _∷_}
-use lib.Dec.{leb, ltb, eqb}
+use lib.Dec.{ltb, eqb}
 use lib.IntN.{ℤ, pos, negsuc, subℕ}
 use lib.ListN.{length, take, drop}
 use Rattle.model.specs.Lists.{within}

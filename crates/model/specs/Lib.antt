@@ -1,4 +1,5 @@
--- What the product means: document 01, section by section, in its order. Nothing here speaks of the code but Values.
+-- What the product means: document 01, section by section; Refusals stands before Book, which uses it. Demand is the buyer's demand 3. Lists, Valid
+-- and Values are no section of it: functions on lists, what is known of a book that was read, and what the values of the declared types hold.
 pub mod Lists
 pub mod Frames
 pub mod Refusals

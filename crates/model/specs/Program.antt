@@ -7,9 +7,13 @@ use Rattle.model.specs.Refusals.{Result, refused, done, numberOf}
 use Rattle.model.specs.Sheet.{Sheet, lf}
 use Rattle.model.specs.Calls.{plannerResult}
 
--- "prints the planner's sheet, or one line `FF`, number (2 digits), line (4 digits), ended by LF"
+-- "one line `FF`, number (2 digits), line (4 digits), ended by LF"
+unfoldable pub refusalLine : ℕ → ℕ → List ℕ
+refusalLine number line = digits 2 255 ++ digits 2 number ++ digits 4 line ++ lf
+
+-- "prints the planner's sheet, or one line"
 abbrev pub printed : Result Sheet → List ℕ
-printed (refused r number) = digits 2 255 ++ digits 2 (numberOf r) ++ digits 4 number ++ lf
+printed (refused r number) = refusalLine (numberOf r) number
 printed (done s) = s .bytes
 
 -- "takes the first 4,096 bytes of its input as the book", "lends 6,144 words"; the longest sheet has 159 bytes

@@ -4,7 +4,7 @@ use mathlib.Core.List.{List, [], _∷_, _++_, map}
 use lib.ListN.{length}
 use Rattle.model.specs.Lists.{concat}
 use Rattle.model.specs.Frames.{digits, unsigned}
-use Rattle.model.specs.Book.{Power, Setting, Problem}
+use Rattle.model.specs.Book.{Power, Problem}
 use Rattle.model.specs.Choice.{Choice, worthOf, sumIn}
 use Rattle.model.specs.Grid.{Slot, slotsOf}
 
@@ -33,7 +33,7 @@ slotLine limit x = digits 2 5 ++ digits 8 (x .p) ++ digits 8 (unsigned 32 (x .q)
 unfoldable pub slotLines : List Slot → Choice → List ℕ
 slotLines slots c = concat (map (λ s. slotLine (s .limit) (sumIn (s .place) c)) slots)
 
--- the sheet of a choice and a number of trials
+-- the sheet of a choice and a number of trials: "These c are the sheet's choice; worth and sums on the sheet are that choice's"
 unfoldable pub sheetBytes : Problem → Choice → ℕ → List ℕ
 sheetBytes b c t = firstLine c t ++ slotLines (slotsOf b) c
 

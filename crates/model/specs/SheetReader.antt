@@ -1,7 +1,7 @@
 -- The sheet reader (document 01, "Quick planner and sheet reader").
 use Prim.Native.Nat.{ℕ, suc, _+_, _*_, _^_, _<_}
 use mathlib.Core.Path.{_≡_}
-use mathlib.Core.Bool.{Bool, cond, not}
+use mathlib.Core.Bool.{cond, not}
 use mathlib.Core.List.{List, [], _∷_}
 use mathlib.Core.Option.{Option, none, some}
 use lib.Dec.{eqb}
@@ -43,10 +43,11 @@ abbrev pub choiceFrom : List ℕ → ℕ → List Settings → Option Choice
 choiceFrom sheet k [] = some []
 choiceFrom sheet k (vs ∷ loads) = consBoth (settingNumbered (field sheet (18 + 2 * k) 2) vs) (choiceFrom sheet (suc k) loads)
 
+-- "trials (8)", after `04` and the worth
 abbrev pub trialsOn : List ℕ → ℕ
 trialsOn sheet = field sheet 10 8
 
--- 13, unless the sheet is the one that the choice and the trials on its own first line give: this finds the `SheetOf` that there is
+-- 13, unless the sheet's bytes are those that the choice and the trials on its own first line give; that is so exactly where there is a `SheetOf`
 -- (proofs/SheetLaws, `reader-accepts` and `reader-only`)
 abbrev pub readAs : List ℕ → Problem → Option Choice → Result SheetData
 readAs sheet b none = refused ForeignSheet 0

@@ -28,7 +28,7 @@ pub record Labelled (vs : Settings) : Type 0 where
   pub several : 1 < length vs
   pub few : length vs ≤ 4
 
--- the numbers have 16 bits
+-- worth and P are below 2^16, and |Q| is at most 2^15
 pub record SettingSmall (v : Setting) : Type 0 where
   pub worth : v .worth < 65536
   pub active : (slot : ℕ) → powerIn slot v .p < 65536

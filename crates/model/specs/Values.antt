@@ -6,7 +6,6 @@ use lib.IntN.{ℤ, pos, negsuc, subℕ}
 use lib.ListN.{length, getD, take, replicate}
 use Rattle.model.specs.declared.Load.{Load}
 use Rattle.model.specs.declared.Book.{Book}
-use Rattle.model.specs.declared.Answer.{Answer}
 use Rattle.model.specs.declared.Reading.{Reading}
 use Rattle.model.specs.Lists.{upto}
 use Rattle.model.specs.Refusals.{Result, refused, done, numberOf}
@@ -55,7 +54,7 @@ unfoldable pub freshBook : Book
 freshBook =
     record { slots = 0; count = 0; fineness = 0; budget = 0; limits = replicate 4 0; loads = replicate 24 (loadValue []) }
 
--- what the book reader answers
+-- what the book reader answers: "Success has number 0 and line 0"; it writes no bytes and plans nothing, so bytes, worth and trials are 0
 abbrev pub readingOf : Result Problem → Reading
 readingOf (refused r number) =
     record { answer = record { number = numberOf r; line = number; bytes = 0; worth = 0; trials = 0 }; book = freshBook }

@@ -22,7 +22,7 @@ pub enum Refusal {
     ForeignSheet,
 }
 
-// What the table of refusals says of a line.
+// What the table of refusals says: none applies, or the first that does.
 pub enum Finding {
     Passed,
     Refused(Refusal),
@@ -88,6 +88,7 @@ impl Load {
 }
 
 impl Book {
+    // Document 01's upper bounds of T, N, d and o; each lower bound is 1.
     pub const SLOTS: usize = 4;
 
     pub const LOADS: usize = 24;

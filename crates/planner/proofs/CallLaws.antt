@@ -16,9 +16,9 @@ use Rattle.model.specs.Choice.{Choice}
 use Rattle.model.specs.Grid.{plan}
 use Rattle.model.specs.Trials.{cells, neededWords, trials, WordsKept}
 use Rattle.model.specs.Sheet.{Sheet, sheetOf, sheetLength}
-use Rattle.model.specs.Calls.{answerOf, bufferAfter, sizeRules, fittingBook, choiceOr, planSheet, plannerResult, freeFor, freeWords}
+use Rattle.model.specs.Calls.{answerOf, bufferAfter, sizeRules, fitting, fittingBook, choiceOr, planSheet, plannerResult, freeFor, freeWords}
 use Rattle.model.proofs.RefusalLaws.{first-here, first-next, first-last}
-use Rattle.planner.specs.Planner.{fitting, fittedPlan}
+use Rattle.planner.specs.Planner.{fittedPlan}
 
 module _ {A B C : Type 0} where
   then-assoc : (x : Result A) (f : A → Result B) (g : B → Result C) → andThen (andThen x f) g ≡ andThen x (λ a. andThen (f a) g)

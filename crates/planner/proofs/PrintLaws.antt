@@ -11,14 +11,13 @@ use Rattle.model.specs.Frames.{digits}
 use Rattle.model.specs.Refusals.{Result, refused, done}
 use Rattle.model.specs.Sheet.{Sheet, lf}
 use Rattle.model.specs.Calls.{answerOf, bufferAfter, plannerResult}
-use Rattle.model.specs.Program.{printed, programOutput}
+use Rattle.model.specs.Program.{refusalLine, printed, programOutput}
 use Rattle.model.proofs.FrameLaws.{length-digits}
 use Rattle.model.proofs.IntegerLaws.{split}
 use Rattle.model.proofs.RefusalLaws.{number-some}
 use Rattle.hex.specs.Written.{written}
 use Rattle.hex.proofs.WrittenLaws.{length-written}
 use Rattle.sheet.proofs.LineLaws.{write-on, write-byte}
-use Rattle.planner.specs.Planner.{refusalLine}
 
 -- three fields and an LF
 pub refusal-written : (l l₁ l₂ l₃ : List ℕ) (number line : ℕ) → l₁ ≡ written l 0 (digits 2 255) → l₂ ≡ written l₁ 2 (digits 2 number)

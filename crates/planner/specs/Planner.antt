@@ -11,13 +11,10 @@ use Rattle.model.specs.Choice.{Choice, codeOf}
 use Rattle.model.specs.Grid.{plan}
 use Rattle.model.specs.Trials.{trials}
 use Rattle.model.specs.Sheet.{Sheet, lf}
-use Rattle.model.specs.Calls.{sizeRules, planSheet}
+use Rattle.model.specs.Calls.{fitting, planSheet}
 use Rattle.planner.specs.declared.Search.{Search}
 
--- refusals 9 to 11 for a book that was read, and then the plan
-abbrev pub fitting : ℕ → ℕ → Problem → Result Problem
-fitting words room b = checked 0 (first (sizeRules b words room)) (done b)
-
+-- the plan of a book that was read, after refusals 9 to 11
 abbrev pub fittedPlan : ℕ → ℕ → Problem → Result Sheet
 fittedPlan words room b = andThen (fitting words room b) planSheet
 
@@ -27,7 +24,3 @@ pub record Found (b : Problem) (v : Search) : Type 0 where
   pub enough : v .within ≡ true → trials b ≤ b .budget
   pub counted : v .within ≡ true → v .trials ≡ trials b
   pub coded : v .within ≡ true → (c : Choice) → plan b ≡ some c → v .code ≡ codeOf c
-
--- "one line `FF`, number (2 digits), line (4 digits), ended by LF"
-unfoldable pub refusalLine : ℕ → ℕ → List ℕ
-refusalLine number line = digits 2 255 ++ digits 2 number ++ digits 4 line ++ lf

@@ -15,14 +15,14 @@ ghost use Rattle.model.specs.Grid.{slotsOf};
 ghost use Rattle.model.specs.Trials.{neededWords, WordsKept};
 ghost use Rattle.layout.specs.Layout.{LayoutIs};
 ghost use Rattle.model.specs.Sheet.{sheetLength};
-ghost use Rattle.model.specs.Calls.{answerOf, bufferAfter, planSheet, plannerResult, freeFor, freeWords};
+ghost use Rattle.model.specs.Calls.{answerOf, bufferAfter, planSheet, plannerResult, fitting, freeFor, freeWords};
 ghost use Rattle.model.specs.Demand.{Demand3};
 ghost use Rattle.model.specs.Values.{Held, problemOf};
 ghost use Rattle.model.proofs.CodeLaws.{decode};
 ghost use Rattle.search.specs.Search.{SlotsIn};
-ghost use Rattle.planner.specs.Planner.{Found, fitting, fittedPlan};
+ghost use Rattle.planner.specs.Planner.{Found, fittedPlan};
 
-// Whether the trials are within the budget, their number, and then the code of the plan.
+// Whether the trials are within the budget; if so, their number and the code of the plan.
 pub struct Search {
     pub within: bool,
     pub trials: u64,

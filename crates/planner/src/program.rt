@@ -2,9 +2,8 @@
 ghost use mathlib.Core.Path.{_≡_};
 ghost use Prim.Native.Nat.{_≤_};
 ghost use lib.ListN.{length, take};
-ghost use Rattle.model.specs.Program.{programOutput};
+ghost use Rattle.model.specs.Program.{programOutput, refusalLine};
 ghost use Rattle.hex.specs.Written.{written};
-ghost use Rattle.planner.specs.Planner.{refusalLine};
 
 // The first `length` of these bytes are printed. The longest sheet has 159.
 pub struct Printed {

@@ -2,10 +2,9 @@
 -- Assumes nothing.
 use mathlib.Core.Path.{_≡_, sym, ap, ap₂, _∙_}
 use mathlib.Core.Logic.{_⊎_, inl, inr}
-use Prim.Native.Nat.{ℕ, _+_, _-_, _*_, _%_, _<_, _≤_}
+use Prim.Native.Nat.{ℕ, _+_, _-_, _*_, _<_, _≤_}
 use native.Mathlib.Omega.{arith}
 use lib.IntN.{ℤ, pos, negsuc, natAbs, subℕ, _+ℤ_}
-use Rattle.model.specs.Frames.{unsigned}
 use Rattle.model.specs.Values.{raised}
 use Rattle.model.proofs.IntegerLaws.{split, sub-pos, sub-neg, sub-same, sub-add, up, down, as-sub, abs-sub}
 use Rattle.sums.specs.Sums.{raisedBy}
@@ -59,9 +58,3 @@ raised-abs n (negsuc k) h = omega arith
 pub raised-less : (n : ℕ) (q : ℤ) → natAbs q ≤ 32768 * n → subℕ (raisedBy n q) (32768 * n) ≡ q
 raised-less n q h =
     sub-same (raisedBy n q) (32768 * n) (up q) (down q) (omega (arith, raised-is n q, abs-is q)) ∙ sym (as-sub q)
-
--- q in two's complement of 32 bits, for at most 24 loads
-pub raised-unsigned : (n : ℕ) (q : ℤ) → n ≤ 24 → natAbs q ≤ 32768 * n → (raisedBy n q + (4294967296 - 32768 * n)) % 4294967296 ≡ unsigned 32 q
-unfolding raisedBy unsigned
-raised-unsigned n (pos k) few h = omega arith
-raised-unsigned n (negsuc k) few h = omega arith

@@ -1,5 +1,5 @@
 -- `book::exceeds_at` meets its contract: the distance of Q plus 32,768 from 32,768 is |Q|. Assumes nothing.
-use mathlib.Core.Path.{_≡_, ap, sym, _∙_}
+use mathlib.Core.Path.{_≡_, ap, _∙_}
 use lib.Dec.{ltb}
 use Rattle.model.specs.Book.{optionStart, powerAt}
 use Rattle.book.specs.Lines.{powerValue}

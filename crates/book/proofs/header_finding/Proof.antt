@@ -1,12 +1,11 @@
 -- `book::header_finding` meets its contract: past each test that fails, the rules after it decide. Assumes nothing.
 use Rattle.book.proofs.LineLaws.{kind-long, first-out, second-out, none-out, ranged}
-use mathlib.Core.Path.{_≡_, refl, sym, ap, _∙_}
+use mathlib.Core.Path.{_≡_, sym, ap, _∙_}
 use mathlib.Core.Bool.{not}
 use mathlib.Core.List.{List}
 use Prim.Native.Nat.{ℕ, _+_, _*_}
-use lib.Dec.{eqb}
 use lib.ListN.{length, drop}
-use borrow.Author.Tests.{eq-eqb, ne-eqb, ltb-false}
+use borrow.Author.Tests.{eq-eqb, ne-eqb}
 use Rattle.model.specs.declared.Refusal.the-variants.{NotHex, WrongKind, SlotsOrOptionsOutOfRange, WrongLength, LoadsOrFinenessOutOfRange}
 use Rattle.model.specs.Lists.{within}
 use Rattle.model.specs.Refusals.{first}

@@ -1,18 +1,16 @@
 -- `book::load_finding` meets its contract: past each test that fails, the rules after it decide. Assumes nothing.
 use Rattle.book.proofs.LineLaws.{kind-long, ranged, in-range}
-use mathlib.Core.Path.{_≡_, refl, sym, ap, _∙_}
+use mathlib.Core.Path.{_≡_, sym, ap, _∙_}
 use mathlib.Core.Bool.{false, not}
 use mathlib.Core.List.{List}
 use Prim.Native.Nat.{ℕ}
 use lib.ListN.{length, drop}
-use borrow.Author.Tests.{eq-eqb, ne-eqb, not-false}
+use borrow.Author.Tests.{eq-eqb, ne-eqb}
 use Rattle.model.specs.declared.Refusal.the-variants.{NotHex, WrongKind, SlotsOrOptionsOutOfRange, WrongLength, ReactiveExceedsActive}
 use Rattle.model.specs.Lists.{within}
 use Rattle.model.specs.Refusals.{first}
 use Rattle.model.specs.Book.{loadRules, optionCount, optionStart}
-use Rattle.model.proofs.ListLaws.{within-is}
 use Rattle.model.proofs.RefusalLaws.{first-here, first-next, first-last}
-use Rattle.book.specs.Lines.{LoadLine}
 use Rattle.book.proofs.LineLaws.{kind-long}
 use native.Mathlib.Omega.{arith}
 use borrow.Author.Needs.{needs}

@@ -1,6 +1,6 @@
 -- `book::load_of` meets its contract. The invariant: the first k entries of both arrays are filled. Assumes nothing.
 use Prim.Native.Nat.{ℕ, _+_, _≤_, _-_}
-use mathlib.Core.Path.{_≡_, refl, sym, ap, _∙_}
+use mathlib.Core.Path.{_≡_, refl, ap}
 use mathlib.Core.List.{map}
 use lib.ListN.{length, take, length-set}
 use Rattle.model.specs.Lists.{upto}

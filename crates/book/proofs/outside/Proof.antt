@@ -1,8 +1,6 @@
 -- `book::outside` meets its contract. Assumes nothing.
 use Rattle.book.proofs.LineLaws.{ltb-not}
 use borrow.Author.Tests.{le-leb, lt-leb}
-use borrow.Author.Needs.{needs}
-use native.Mathlib.Omega.{arith}
 use Rattle.book.proofs.outside.Statement.{statement}
 use Rattle.book.proofs.outside.Tie as tie
 

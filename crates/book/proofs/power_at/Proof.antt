@@ -1,5 +1,5 @@
 -- `book::power_at` meets its contract. Assumes nothing.
-use mathlib.Core.Path.{_≡_, _∙_, sym}
+use mathlib.Core.Path.{_≡_}
 use Rattle.model.specs.Frames.{field, signed}
 use Rattle.model.specs.Values.{raised}
 use Prim.Native.Nat.{_+_, _%_}

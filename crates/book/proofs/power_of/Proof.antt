@@ -1,5 +1,5 @@
 -- `book::power_of` meets its contract: standing, past the last option or slot, or an option in a slot. Assumes nothing.
-use mathlib.Core.Path.{_≡_, refl, sym, ap, _∙_}
+use mathlib.Core.Path.{sym, ap, _∙_}
 use Prim.Native.Nat.{_+_, _-_, _*_, _/_, _%_}
 use Rattle.model.specs.Book.{powerAt}
 use Rattle.model.specs.Values.{raised}

@@ -1,17 +1,15 @@
 -- `book::read_book` meets its contract. Assumes nothing.
-use Prim.Native.Nat.{ℕ, suc, _+_, _-_, _<_, _≤_}
-use mathlib.Core.Path.{_≡_, refl, sym, ap, ap₂, _∙_}
+use Prim.Native.Nat.{suc, _+_, _-_, _<_, _≤_}
+use mathlib.Core.Path.{_≡_, sym, ap, ap₂, _∙_}
 use native.Mathlib.Nat.{sub-zero}
 use native.Mathlib.Numerals.{add-one}
 use lib.ListN.{length, take, drop}
 use Rattle.model.specs.declared.Reading.{Reading}
 use Rattle.model.specs.declared.Answer.{Answer}
 use Rattle.model.specs.declared.Finding.the-variants.{Passed, Refused}
-use Rattle.model.specs.declared.Refusal.the-variants.{Unterminated}
 use Rattle.model.specs.Frames.{lineLength, lineOf, afterLine}
-use Rattle.model.specs.Refusals.{first, refused}
-use Rattle.model.specs.Calls.{answerOf}
-use Rattle.model.specs.Book.{headerRules, readBook}
+use Rattle.model.specs.Refusals.{first}
+use Rattle.model.specs.Book.{headerRules}
 use Rattle.model.specs.Values.{freshBook, readingOf}
 use Rattle.book.specs.Lines.{restRead}
 use Rattle.book.proofs.ReadLaws.{book-torn, header-refused, header-passed, rest-is}

@@ -1,17 +1,17 @@
 -- `book::read_loads` meets its contract. The invariant: k lines are read, and what is left decides. Assumes nothing.
 use Rattle.model.specs.declared.Refusal.the-variants.{Unterminated, TrailingBytes}
-use lib.ListN.{length, take, drop, replicate, length-drop, length-set}
-use Prim.Native.Nat.{ℕ, _+_, _-_, _≤_, _<_}
+use lib.ListN.{length, take, drop, length-drop, length-set}
+use Prim.Native.Nat.{_+_, _-_, _≤_, _<_}
 use mathlib.Core.Path.{_≡_, refl, sym, ap, _∙_}
 use lib.ListN.{length, take, drop, length-drop, length-set}
 use Rattle.model.specs.declared.Finding.the-variants.{Passed, Refused}
 use Rattle.model.specs.Frames.{lineLength, lineOf}
-use Rattle.model.specs.Refusals.{first, refused, done}
+use Rattle.model.specs.Refusals.{first, refused}
 use Rattle.model.specs.Book.{optionCount, loadRules, settings}
 use Rattle.model.specs.Values.{loadValue}
 use Rattle.book.specs.Lines.{loadsReading}
 use Rattle.book.proofs.LineLaws.{load-line, line-holds}
-use Rattle.book.proofs.ReadLaws.{Read, read-none, read-torn, read-refused, read-more, read-trailing, read-all, rest-is, length-is, line-is, after-is}
+use Rattle.book.proofs.ReadLaws.{Read, read-none, read-torn, read-refused, read-more, read-trailing, read-all, length-is, line-is, after-is}
 use borrow.Author.Needs.{needs}
 use native.Mathlib.Omega.{arith}
 use Rattle.book.proofs.read_loads.Statement.{statement}

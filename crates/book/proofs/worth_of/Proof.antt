@@ -1,8 +1,6 @@
 -- `book::worth_of` meets its contract: standing, past the last option, or an option. Assumes nothing.
-use mathlib.Core.Path.{_≡_, refl, sym, ap, _∙_}
-use Prim.Native.Nat.{_+_, _-_}
-use Rattle.model.specs.Book.{settings, optionStart}
-use Rattle.model.specs.Values.{settingOf}
+use mathlib.Core.Path.{_≡_, _∙_}
+use Prim.Native.Nat.{_-_}
 use Rattle.book.proofs.LineLaws.{setting-option, setting-past, option-next, room}
 use native.Mathlib.Omega.{arith}
 use borrow.Author.Needs.{needs}

@@ -1,6 +1,5 @@
 -- `book::wrong_kind` meets its contract. Assumes nothing.
 use borrow.Author.Tests.{lt-ltb, le-ltb}
-use native.Mathlib.Omega.{arith}
 use borrow.Author.Needs.{needs}
 use Rattle.book.proofs.wrong_kind.Statement.{statement}
 use Rattle.book.proofs.wrong_kind.Tie as tie

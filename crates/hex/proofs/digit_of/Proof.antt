@@ -1,7 +1,6 @@
 -- `hex::digit_of` meets its contract. Assumes nothing.
 use borrow.Author.Tests.{lt-ltb, le-ltb}
 use Rattle.model.specs.Frames.{digit}
-use native.Mathlib.Omega.{arith}
 use borrow.Author.Needs.{needs}
 use Rattle.hex.proofs.digit_of.Statement.{statement}
 use Rattle.hex.proofs.digit_of.Tie as tie

@@ -1,7 +1,6 @@
 -- `hex::is_digit` meets its contract: each way out decides both ranges. Assumes nothing.
 use borrow.Author.Tests.{le-leb, lt-leb}
 use Rattle.model.specs.Frames.{isDigit}
-use borrow.Author.Needs.{needs}
 use native.Mathlib.Omega.{arith}
 use Rattle.hex.proofs.is_digit.Statement.{statement}
 use Rattle.hex.proofs.is_digit.Tie as tie

@@ -4,12 +4,12 @@ use lib.ListN.{length}
 use Rattle.model.specs.declared.Answer.{Answer}
 use Rattle.model.specs.declared.Reading.{Reading}
 use Rattle.model.specs.Trials.{WordsKept}
-use Rattle.model.specs.Calls.{answerOf, bufferAfter, freeFor}
+use Rattle.model.specs.Calls.{answerOf, bufferAfter, fitting, freeFor}
 use Rattle.model.specs.Demand.{Demand3}
 use Rattle.model.specs.Values.{Held, problemOf}
 use Rattle.model.proofs.DemandLaws.{demand3}
 use Rattle.model.proofs.ReadingLaws.{reading-held, reading-done, reading-refused}
-use Rattle.planner.specs.Planner.{fitting, fittedPlan}
+use Rattle.planner.specs.Planner.{fittedPlan}
 use Rattle.planner.proofs.CallLaws.{planner-is, free-is}
 use borrow.Author.Needs.{needs}
 use Rattle.planner.proofs.plan.Statement.{statement}

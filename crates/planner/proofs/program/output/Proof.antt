@@ -4,7 +4,7 @@ use Prim.Native.Nat.{_≤_}
 use lib.ListN.{length, take}
 use Rattle.model.specs.declared.Answer.{Answer}
 use Rattle.model.specs.Calls.{answerOf, plannerResult}
-use Rattle.planner.specs.Planner.{refusalLine}
+use Rattle.model.specs.Program.{refusalLine}
 use Rattle.planner.proofs.PrintLaws.{refusal-first, printed-sheet, printed-fits, printed-refusal, program-is, book-count}
 use native.Mathlib.Omega.{arith}
 use borrow.Author.Needs.{needs}
