@@ -2,7 +2,7 @@
 -- Assumes nothing.
 use mathlib.Core.Path.{_≡_, refl, sym, ap, ap₂, _∙_, subst, fun-ext}
 use mathlib.Core.Bool.{Bool, true, false, cond, _&&_, _||_}
-use mathlib.Core.List.{List, [], _∷_, _++_, map}
+use mathlib.Core.List.{List, [], _∷_, map}
 use mathlib.Core.Option.{Option, none}
 use Prim.Native.Nat.{ℕ, suc, _+_, _<_, _≤_, _/_}
 use native.Mathlib.Nat.{le-trans, le-add-right}
@@ -18,7 +18,7 @@ use Rattle.model.specs.Valid.{SettingKept}
 use Rattle.model.proofs.OrderLaws.{Key, bestKey}
 use Rattle.model.proofs.ListLaws.{both, each, bool-same, every-imp, every-append, every-map, every-keep, keep-same}
 use Rattle.model.proofs.ChoiceLaws.{Sized, choices-sized, plusEach, settingGrids}
-use Rattle.model.proofs.RecurrenceLaws.{keyOf, key?, bestWhere, bestAt, bestOver, best-at-last, admitsAll, plan-key}
+use Rattle.model.proofs.RecurrenceLaws.{keyOf, key?, bestWhere, bestAt, admitsAll, plan-key}
 use Rattle.model.proofs.CellLaws.{joinUpto, best-by-cell, isSome, some-any, countUpto, distinct-count}
 use Rattle.model.proofs.AdmissionLaws.{SlotsFor, admits-range}
 use Rattle.model.proofs.IndexLaws.{pairsAt, indexOf, gridAt, grid-back, WithinAll, index-below, index-apart, Kept, within-choice}
@@ -202,7 +202,7 @@ best-cells r n slots loads h G f =
         (choices loads) within))
         ∙ where-test (G (gridAt (suc r) slots i)) (λ c. hasCell (suc r) slots i (gridsOf slots c)) (choices loads)
 
--- ---- one more load: each cell from the cells before
+-- ---- one more setting
 
 pub range-plus : (slots : List Slot) (g : List Power) (v : Setting) → T (rangeAll slots (plusEach g (settingGrids slots v))) → T (rangeAll slots g)
 range-plus [] g v t = tt
@@ -214,18 +214,6 @@ range-plus (s ∷ slots) (x ∷ g) v t =
   where
     parts : T (leb (x .p + powerIn (s .place) v .p / s .step) (gridTop s)) × T (rangeAll slots (plusEach g (settingGrids slots v)))
     parts = both (leb (x .p + powerIn (s .place) v .p / s .step) (gridTop s)) (rangeAll slots (plusEach g (settingGrids slots v))) t
-
-pub cells-last : (r n : ℕ) (slots : List Slot) (loads : List Settings) (vs : Settings) → Ready r n slots loads → (i : ℕ)
-    → cellBest (suc r) slots (loads ++ (vs ∷ [])) i
-    ≡ bestOver (length loads)
-    (λ v. joinUpto (cellCount (suc r) slots)
-    (λ j. cond (hasCell (suc r) slots i (plusEach (gridAt (suc r) slots j) (settingGrids slots v))) (cellBest (suc r) slots loads j) none))
-    vs
-cells-last r n slots loads vs h i =
-    best-at-last slots (hasCell (suc r) slots i) loads vs
-    ∙ ap (λ old. bestOver (length loads) old vs)
-    (fun-ext (λ v. best-cells r n slots loads h (λ g. hasCell (suc r) slots i (plusEach g (settingGrids slots v)))
-    (λ g t. range-plus slots g v (both (rangeAll slots (plusEach g (settingGrids slots v))) (eqb (indexOf (suc r) slots (plusEach g (settingGrids slots v))) i) t .0))))
 
 -- ---- the plan, from the cells
 
