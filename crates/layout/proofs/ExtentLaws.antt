@@ -11,11 +11,8 @@ use Rattle.model.specs.Grid.{Slot, gridsOf}
 use Rattle.model.specs.Trials.{gridTop}
 use Rattle.model.proofs.IndexLaws.{widthOf, rowCount, columnCount, columnIndex, cells-area}
 use Rattle.model.proofs.TableLaws.{cellCount}
+use Rattle.search.proofs.ModelLaws.{rows-some}
 use Rattle.layout.specs.Layout.{noSlot}
-
-pub rows-some : (slots : List Slot) → 1 ≤ rowCount slots
-rows-some [] = omega arith
-rows-some (s ∷ slots) = let h : 1 ≤ gridTop s + 1 = omega arith in mul-le-mul (rows-some slots) h
 
 pub columns-some : (slots : List Slot) → 1 ≤ columnCount 1 slots
 columns-some [] = omega arith

@@ -3,7 +3,7 @@
 use Prim.Native.Nat.{ℕ, suc, _+_, _*_, _-_, _/_, _^_, _<_, _≤_}
 use mathlib.Core.Path.{_≡_, refl, sym, ap, ap₂, _∙_, subst}
 use mathlib.Core.List.{List, [], _∷_}
-use native.Mathlib.Nat.{add-mul, mul-le-mul, mul-le-mul-left, mul-le-mul-right, div-le-self, zero-add}
+use native.Mathlib.Nat.{mul-le-mul, mul-le-mul-left, mul-le-mul-right, div-le-self, zero-add}
 use native.Mathlib.Omega.{arith}
 use lib.IntN.{ℤ, natAbs}
 use lib.ListN.{length, getD, set, drop, length-set, drop-of-length-le}
@@ -22,21 +22,19 @@ use Rattle.model.proofs.IntegerLaws as integers
 use Rattle.model.proofs.ChoiceLaws.{settingGrid, settingGrids}
 use Rattle.model.proofs.IndexLaws.{widthOf, rowIndex, rowCount, columnCount}
 use Rattle.model.proofs.TableLaws.{cellCount}
-use Rattle.model.proofs.RowLaws.{columnUp, columnDown}
+use Rattle.model.proofs.RowLaws.{columnUp, columnDown, digit-plus}
 use Rattle.search.specs.Search.{ActivesAre, MoveIs}
 use Rattle.layout.specs.declared.Slots.{Slots}
 use Rattle.layout.specs.Layout.{noSlot, SlotAt, LoadHeld}
 use Rattle.layout.proofs.ArrayLaws.{set-down}
 use Rattle.layout.proofs.ValueLaws.{floor-small, raised-small, raised-parts}
-use Rattle.layout.proofs.ExtentLaws.{rows-some, columns-some, rows-fit, columns-fit, rows-more, columns-more}
+use Rattle.search.proofs.ModelLaws.{rows-some}
+use Rattle.layout.proofs.ExtentLaws.{columns-some, rows-fit, columns-fit, rows-more, columns-more}
 
 -- digits that are at most m, in n places whose values multiply up to c
 digit-most : (n x c w d m : ℕ) → x ≤ m * n * c → d ≤ m → 1 ≤ c * w → x * w + d ≤ m * (n + 1) * (c * w)
 digit-most n x c w d m h k some =
     omega (arith, mul-le-mul-right w h, mul-le-mul-left m some)
-
-digit-shift : (u D d U w a b m n : ℕ) → u + D ≡ d + U → a + b ≡ m + n → u * w + a + (D * w + b) ≡ d * w + m + (U * w + n)
-digit-shift u D d U w a b m n e f = omega (arith, sym (add-mul u D w) ∙ ap (λ x. x * w) e ∙ add-mul d U w)
 
 -- from slot t on
 pub record Moved (slots : List Slot) (v : Setting) (t back up down : ℕ) (active : List ℕ) : Type 0 where
@@ -110,7 +108,7 @@ module _ (slots : List Slot) (v : Setting) (small : SettingSmall v) (t : ℕ) (l
             ∙ ap (λ ss. rowIndex ss (settingGrids ss v)) (sym e);
         shift-is = subst (λ ss. up * wide + b + columnDown 1 ss (settingGrids ss v) ≡ down * wide + 32768 + columnUp 1 ss (settingGrids ss v)) (sym e)
             (subst (λ w. up * w + b + columnDown 1 (s ∷ rest) (settingGrids (s ∷ rest) v) ≡ down * w + 32768 + columnUp 1 (s ∷ rest) (settingGrids (s ∷ rest) v)) (sym (d .wide-is))
-            (digit-shift up (columnDown 1 rest (settingGrids rest v)) down (columnUp 1 rest (settingGrids rest v)) (widthOf 1 s) b (integers.down (settingGrid s v .q)) 32768 (integers.up (settingGrid s v .q)) (m .shift-is)
+            (digit-plus up (columnDown 1 rest (settingGrids rest v)) down (columnUp 1 rest (settingGrids rest v)) (widthOf 1 s) b (integers.down (settingGrid s v .q)) 32768 (integers.up (settingGrid s v .q)) (m .shift-is)
             (ap (λ x. x + integers.down (settingGrid s v .q)) (d .reactive-is) ∙ raised-parts (settingGrid s v .q) near)));
         actives-are = set-down (λ i x. x ≡ settingGrid (getD slots i noSlot) v .p) active t (length slots) a 0 (omega (arith, m .active-length)) (d .active-is) (λ i h k. m .actives-are i h k);
         back-most = back-bound;

@@ -11,6 +11,8 @@ use Rattle.model.specs.Grid.{Slot, stepFor, slotsFrom, slotsOf}
 use Rattle.model.specs.Trials.{gridTop, cells}
 use Rattle.model.specs.Values.{Held, problemOf}
 use Rattle.model.proofs.IndexLaws.{widthOf, cells-one}
+use Rattle.model.proofs.DemandLaws.{slotAt}
+use Rattle.model.proofs.SheetLaws.{length-slots}
 use Rattle.model.proofs.UptoLaws.{suc-across}
 use Rattle.sums.proofs.HeldLaws.{held-valid, held-count, held-slots, held-four, held-limit, held-limit-small}
 use Rattle.search.specs.Search.{SlotsIn}
@@ -20,27 +22,19 @@ use Rattle.layout.proofs.ArrayLaws.{set-each}
 
 -- ---- the slots of a book
 
-abbrev pub slotFor : ℕ → ℕ → ℕ → ℕ → Slot
-slotFor n d i limit = record { place = i; limit = limit; step = stepFor n d limit; loads = n }
-
-from-length : (n d i : ℕ) (ss : List ℕ) → length (slotsFrom n d i ss) ≡ length ss
-from-length n d i [] = refl
-from-length n d i (s ∷ ss) = ap suc (from-length n d (suc i) ss)
-
-from-at : (n d i : ℕ) (ss : List ℕ) (t : ℕ) → t < length ss → getD (slotsFrom n d i ss) t noSlot ≡ slotFor n d (i + t) (getD ss t 0)
+from-at : (n d i : ℕ) (ss : List ℕ) (t : ℕ) → t < length ss → getD (slotsFrom n d i ss) t noSlot ≡ slotAt n d (i + t) (getD ss t 0)
 from-at n d i [] t l = absurd (omega arith)
-from-at n d i (s ∷ ss) zero l = let e : i ≡ i + 0 = omega arith in ap (λ j. slotFor n d j s) e
+from-at n d i (s ∷ ss) zero l = let e : i ≡ i + 0 = omega arith in ap (λ j. slotAt n d j s) e
 from-at n d i (s ∷ ss) (suc t) l =
-    from-at n d (suc i) ss t (le-of-suc-le-suc l) ∙ ap (λ j. slotFor n d j (getD ss t 0)) (sym (suc-across i t))
+    from-at n d (suc i) ss t (le-of-suc-le-suc l) ∙ ap (λ j. slotAt n d j (getD ss t 0)) (sym (suc-across i t))
 
 -- slot t, of a book's value
 abbrev pub slotIn : Book → ℕ → Slot
-slotIn v t = slotFor (v .count) (v .fineness) t (getD (v .limits) t 0)
+slotIn v t = slotAt (v .count) (v .fineness) t (getD (v .limits) t 0)
 
 module _ (v : Book) (h : Held v) where
   pub slots-length : length (slotsOf (problemOf v)) ≡ v .slots
-  unfolding slotsOf
-  slots-length = from-length (length (problemOf v .loads)) (problemOf v .fineness) 0 (problemOf v .limits) ∙ sym (held-slots v h)
+  slots-length = length-slots (problemOf v) ∙ sym (held-slots v h)
 
   fineness-is : problemOf v .fineness ≡ v .fineness
   unfolding problemOf
@@ -59,10 +53,10 @@ module _ (v : Book) (h : Held v) where
   unfolding slotsOf
   slot-at t l =
       from-at (length (problemOf v .loads)) (problemOf v .fineness) 0 (problemOf v .limits) t (omega (arith, held-slots v h))
-      ∙ ap (λ i. slotFor (length (problemOf v .loads)) (problemOf v .fineness) i (getD (problemOf v .limits) t 0)) (zero-add t)
-      ∙ ap (λ s. slotFor (length (problemOf v .loads)) (problemOf v .fineness) t s) (sym (held-limit v h t (omega (arith, held-four v h))))
-      ∙ ap (λ d. slotFor (length (problemOf v .loads)) d t (getD (v .limits) t 0)) fineness-is
-      ∙ ap (λ n. slotFor n (v .fineness) t (getD (v .limits) t 0)) (sym (held-count v h))
+      ∙ ap (λ i. slotAt (length (problemOf v .loads)) (problemOf v .fineness) i (getD (problemOf v .limits) t 0)) (zero-add t)
+      ∙ ap (λ s. slotAt (length (problemOf v .loads)) (problemOf v .fineness) t s) (sym (held-limit v h t (omega (arith, held-four v h))))
+      ∙ ap (λ d. slotAt (length (problemOf v .loads)) d t (getD (v .limits) t 0)) fineness-is
+      ∙ ap (λ n. slotAt n (v .fineness) t (getD (v .limits) t 0)) (sym (held-count v h))
 
 -- ---- the arrays, place by place
 
@@ -99,8 +93,8 @@ pub record Filled (n d : ℕ) (limits steps tops widths : List ℕ) (t : ℕ) : 
   pub tops-length : length tops ≡ 4
   pub widths-length : length widths ≡ 4
   pub steps-are : (i : ℕ) → i < t → getD steps i 0 ≡ stepFor n d (getD limits i 0)
-  pub tops-are : (i : ℕ) → i < t → getD tops i 0 ≡ gridTop (slotFor n d i (getD limits i 0)) + 1
-  pub widths-are : (i : ℕ) → i < t → getD widths i 0 ≡ widthOf 1 (slotFor n d i (getD limits i 0))
+  pub tops-are : (i : ℕ) → i < t → getD tops i 0 ≡ gridTop (slotAt n d i (getD limits i 0)) + 1
+  pub widths-are : (i : ℕ) → i < t → getD widths i 0 ≡ widthOf 1 (slotAt n d i (getD limits i 0))
 
 pub filled-none : (n d : ℕ) (limits steps tops widths : List ℕ) → length steps ≡ 4 → length tops ≡ 4 → length widths ≡ 4 → Filled n d limits steps tops widths 0
 filled-none n d limits steps tops widths a b c =
@@ -116,14 +110,14 @@ filled-none n d limits steps tops widths a b c =
 pub filled-more : (n d : ℕ) (limits steps tops widths : List ℕ) (t step : ℕ) → t < 4 → step ≡ stepFor n d (getD limits t 0) → Filled n d limits steps tops widths t
     → Filled n d limits (set steps t step) (set tops t (getD limits t 0 / step + 1)) (set widths t (2 * (getD limits t 0 / step) + n + 1)) (t + 1)
 filled-more n d limits steps tops widths t step l e f =
-    let top : getD limits t 0 / step ≡ gridTop (slotFor n d t (getD limits t 0)) = ap (λ m. getD limits t 0 / m) e in
+    let top : getD limits t 0 / step ≡ gridTop (slotAt n d t (getD limits t 0)) = ap (λ m. getD limits t 0 / m) e in
     record {
       steps-length = length-set steps t step ∙ f .steps-length;
       tops-length = length-set tops t (getD limits t 0 / step + 1) ∙ f .tops-length;
       widths-length = length-set widths t (2 * (getD limits t 0 / step) + n + 1) ∙ f .widths-length;
       steps-are = set-each (λ i x. x ≡ stepFor n d (getD limits i 0)) steps t step 0 (omega (arith, f .steps-length)) e (f .steps-are);
-      tops-are = set-each (λ i x. x ≡ gridTop (slotFor n d i (getD limits i 0)) + 1) tops t (getD limits t 0 / step + 1) 0 (omega (arith, f .tops-length)) (omega arith) (f .tops-are);
-      widths-are = set-each (λ i x. x ≡ widthOf 1 (slotFor n d i (getD limits i 0))) widths t (2 * (getD limits t 0 / step) + n + 1) 0 (omega (arith, f .widths-length)) (omega arith) (f .widths-are);
+      tops-are = set-each (λ i x. x ≡ gridTop (slotAt n d i (getD limits i 0)) + 1) tops t (getD limits t 0 / step + 1) 0 (omega (arith, f .tops-length)) (omega arith) (f .tops-are);
+      widths-are = set-each (λ i x. x ≡ widthOf 1 (slotAt n d i (getD limits i 0))) widths t (2 * (getD limits t 0 / step) + n + 1) 0 (omega (arith, f .widths-length)) (omega arith) (f .widths-are);
     }
 
 pub filled-all : (v : Book) → Held v → (steps tops widths : List ℕ) → Filled (v .count) (v .fineness) (v .limits) steps tops widths (v .slots)

@@ -37,7 +37,7 @@ use Rattle.model.proofs.Overload as Overload
 
 -- ---- slots by their number
 
-abbrev slotAt : ℕ → ℕ → ℕ → ℕ → Slot
+abbrev pub slotAt : ℕ → ℕ → ℕ → ℕ → Slot
 slotAt n d i s = record { place = i; limit = s; step = stepFor n d s; loads = n }
 
 keeps-all : (n d i : ℕ) (ss : List ℕ) (c : Choice)

@@ -56,7 +56,7 @@ row-plus (s ∷ slots) c v =
     ap (λ n. n * (gridTop s + 1) + (gridIn s c .p + settingGrid s v .p)) (row-plus slots c v)
     ∙ (omega (arith, add-mul (rowIndex slots (gridsOf slots c)) (rowIndex slots (settingGrids slots v)) (gridTop s + 1)))
 
-digit-plus : (C′ D C U w b′ d b u : ℕ) → C′ + D ≡ C + U → b′ + d ≡ b + u → C′ * w + b′ + (D * w + d) ≡ C * w + b + (U * w + u)
+pub digit-plus : (C′ D C U w b′ d b u : ℕ) → C′ + D ≡ C + U → b′ + d ≡ b + u → C′ * w + b′ + (D * w + d) ≡ C * w + b + (U * w + u)
 digit-plus C′ D C U w b′ d b u e f = omega (arith, sym (add-mul C′ D w) ∙ ap (λ n. n * w) e ∙ add-mul C U w)
 
 pub column-plus : (r : ℕ) (slots : List Slot) (c : Choice) (v : Setting) → WithinAll r slots (gridsOf slots c)

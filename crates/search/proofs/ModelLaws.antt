@@ -42,7 +42,7 @@ tops-some tops t [] a i l = absurd (omega arith)
 tops-some tops t (s ∷ slots) a zero l = let e : t + 0 ≡ t = omega arith in rw e (omega (arith, a .0))
 tops-some tops t (s ∷ slots) a (suc i) l = let e : t + suc i ≡ t + 1 + i = omega arith in rw e (tops-some tops (t + 1) slots (a .1) i (omega arith))
 
-rows-some : (slots : List Slot) → 1 ≤ rowCount slots
+pub rows-some : (slots : List Slot) → 1 ≤ rowCount slots
 rows-some [] = omega arith
 rows-some (s ∷ slots) = let h : 1 ≤ gridTop s + 1 = omega arith in mul-le-mul (rows-some slots) h
 
