@@ -1,0 +1,257 @@
+// Books with one fault or two, put in on purpose: a fault is a refusal's number of 1 to 8 and the line that it is put on. By
+// document 01's order the answer is that of the earlier line, and on one line the lower number.
+use crate::draw::roll;
+use crate::fields;
+use crate::plain::byte_at;
+use crate::plain::lesser;
+use crate::plain::minus;
+use crate::plain::plus;
+use crate::plain::put_byte;
+use crate::plain::rest;
+use crate::plain::times;
+use crate::text::put_end;
+use crate::text::put_header;
+use crate::text::put_load;
+use crate::text::put_number;
+
+const NO_LINE: u64 = 1000;
+
+pub struct Fault {
+    pub number: u64,
+    pub line: u64,
+}
+
+// Two faults, the higher number first; where there is one only, the other is on no line.
+pub struct Faults {
+    pub high: Fault,
+    pub low: Fault,
+}
+
+// A line on which a fault of this number can be.
+fn draw_line(dice: &mut [u64], book: &[u64], number: u64) -> u64 {
+    let loads = fields::loads(book);
+    if number == 6 {
+        1
+    } else if number == 7 {
+        plus(2, roll(dice, loads))
+    } else if number == 8 {
+        plus(loads, 2)
+    } else {
+        plus(1, roll(dice, plus(loads, 1)))
+    }
+}
+
+fn draw_fault(dice: &mut [u64], book: &[u64], number: u64) -> Fault {
+    let line = draw_line(dice, book, number);
+    Fault { number, line }
+}
+
+pub fn draw_one(dice: &mut [u64], book: &[u64]) -> Faults {
+    let number = plus(1, roll(dice, 8));
+    let one = draw_fault(dice, book, number);
+    Faults {
+        high: Fault {
+            number: 0,
+            line: NO_LINE,
+        },
+        low: one,
+    }
+}
+
+// Two faults of different numbers.
+pub fn draw_two(dice: &mut [u64], book: &[u64]) -> Faults {
+    let number = plus(2, roll(dice, 7));
+    let lower = plus(1, roll(dice, minus(number, 1)));
+    let high = draw_fault(dice, book, number);
+    let low = draw_fault(dice, book, lower);
+    Faults { high, low }
+}
+
+// The fault that is answered.
+pub fn first(faults: Faults) -> Fault {
+    let high = faults.high;
+    let low = faults.low;
+    if high.line < low.line { high } else { low }
+}
+
+// T or o out of its range, by two digits that begin at the line's third.
+fn crowd(text: &mut [u8], start: u64, dice: &mut [u64]) {
+    let n = roll(dice, 252);
+    let range = if n == 0 { 0 } else { plus(n, 4) };
+    put_number(text, plus(start, 2), 2, range);
+}
+
+// N or d out of its range.
+fn pass_range(text: &mut [u8], dice: &mut [u64]) {
+    let kind = roll(dice, 4);
+    if kind == 0 {
+        put_number(text, 4, 2, 0);
+    } else if kind == 1 {
+        put_number(text, 4, 2, plus(25, roll(dice, 231)));
+    } else if kind == 2 {
+        put_number(text, 6, 2, 0);
+    } else {
+        put_number(text, 6, 2, plus(65, roll(dice, 191)));
+    }
+}
+
+// A Q of 16 bits this far from 0, on the side that is drawn if it has one there.
+fn either(far: u64, side: u64) -> u64 {
+    if side == 0 && far < 32768 {
+        far
+    } else {
+        fields::negative(far)
+    }
+}
+
+// Where some option's P and Q of some slot begin on a load's line.
+fn draw_pair(dice: &mut [u64], book: &[u64], load: u64) -> u64 {
+    let option = roll(dice, fields::options(book, load));
+    let slot = roll(dice, fields::slots(book));
+    let each = times(4, fields::used(book));
+    plus(8, plus(times(option, each), times(8, slot)))
+}
+
+// |Q| one above P, or more, in some option and slot.
+fn slacken(text: &mut [u8], start: u64, dice: &mut [u64], book: &[u64], load: u64) {
+    let place = plus(start, draw_pair(dice, book, load));
+    let p = roll(dice, 32767);
+    let far = plus(plus(p, 1), roll(dice, minus(32767, p)));
+    let q = either(far, roll(dice, 2));
+    let next = put_number(text, place, 4, p);
+    put_number(text, next, 4, q);
+}
+
+// A byte of the line that is no digit.
+fn smudge(text: &mut [u8], start: u64, end: u64, dice: &mut [u64]) {
+    let place = plus(start, roll(dice, minus(end, start)));
+    put_byte(text, place, byte_at(b"gafG:/@` \r\t\0", roll(dice, 12)));
+}
+
+// Puts one fault into a line without its end, and gives the line's new end.
+fn put_fault(
+    text: &mut [u8],
+    start: u64,
+    end: u64,
+    dice: &mut [u64],
+    book: &[u64],
+    fault: Fault,
+) -> u64 {
+    let kind = fault.number;
+    if kind == 7 {
+        slacken(text, start, dice, book, minus(fault.line, 2));
+        end
+    } else if kind == 6 {
+        pass_range(text, dice);
+        end
+    } else if kind == 5 {
+        put_byte(text, end, b'0');
+        minus(plus(end, 1), times(2, roll(dice, 2)))
+    } else if kind == 4 {
+        crowd(text, start, dice);
+        end
+    } else if kind == 3 {
+        stray(text, start, end, dice)
+    } else if kind == 2 {
+        smudge(text, start, end, dice);
+        end
+    } else {
+        plus(start, roll(dice, plus(minus(end, start), 1)))
+    }
+}
+
+// Fewer than 4 digits, or a kind that is not due.
+fn stray(text: &mut [u8], start: u64, end: u64, dice: &mut [u64]) -> u64 {
+    let digits = roll(dice, 8);
+    if digits < 4 && digits > 0 {
+        plus(start, digits)
+    } else {
+        put_number(text, start, 2, plus(3, roll(dice, 253)));
+        end
+    }
+}
+
+// The line with the faults that are on it: the one of the higher number first, which the other then leaves hidden.
+fn put_faults(
+    text: &mut [u8],
+    start: u64,
+    end: u64,
+    dice: &mut [u64],
+    book: &[u64],
+    faults: Faults,
+    line: u64,
+) -> u64 {
+    let with_high = put_fault_on(text, start, end, dice, book, faults.high, line);
+    put_fault_on(text, start, with_high, dice, book, faults.low, line)
+}
+
+fn put_fault_on(
+    text: &mut [u8],
+    start: u64,
+    end: u64,
+    dice: &mut [u64],
+    book: &[u64],
+    fault: Fault,
+    line: u64,
+) -> u64 {
+    if fault.line == line && fault.number < 8 {
+        put_fault(text, start, end, dice, book, fault)
+    } else {
+        end
+    }
+}
+
+fn put_line(text: &mut [u8], start: u64, book: &[u64], line: u64) -> u64 {
+    if line == 1 {
+        put_header(text, book)
+    } else {
+        put_load(text, start, book, minus(line, 2))
+    }
+}
+
+fn put_damaged_line(
+    text: &mut [u8],
+    start: u64,
+    dice: &mut [u64],
+    book: &[u64],
+    faults: Faults,
+    line: u64,
+) -> u64 {
+    let mut end = put_line(text, start, book, line);
+    end = put_faults(text, start, end, dice, book, faults, line);
+    put_end_unless(text, end, line == torn_line(faults))
+}
+
+// A book's text with its faults; a torn line is the last.
+pub fn put_damaged(text: &mut [u8], dice: &mut [u64], book: &[u64], faults: Faults) -> u64 {
+    let torn = torn_line(faults);
+    let mut end = 0;
+    for line in 1..plus(lesser(torn, plus(fields::loads(book), 1)), 1) {
+        end = put_damaged_line(text, end, dice, book, faults, line);
+    }
+    put_trailing(text, end, faults)
+}
+
+// The line that is torn, if one is.
+fn torn_line(faults: Faults) -> u64 {
+    let low = faults.low;
+    if low.number == 1 { low.line } else { NO_LINE }
+}
+
+fn put_end_unless(text: &mut [u8], end: u64, torn: bool) -> u64 {
+    if torn { end } else { put_end(text, end) }
+}
+
+// A byte after the last line: no LF where the last line is torn, as it would end it.
+fn put_trailing(text: &mut [u8], end: u64, faults: Faults) -> u64 {
+    let high = faults.high;
+    let low = faults.low;
+    if high.number != 8 && low.number != 8 {
+        end
+    } else if low.number == 1 || rest(end, 2) == 0 {
+        put_byte(text, end, b'0');
+        plus(end, 1)
+    } else {
+        put_end(text, end)
+    }
+}

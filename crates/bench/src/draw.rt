@@ -1,0 +1,222 @@
+// The generator of books. `dice` holds what the next draw depends on: the seed's present number, and how the present load is
+// drawn. What is drawn is counted by kind in `tally`.
+use crate::fields;
+use crate::kinds;
+use crate::plain::at;
+use crate::plain::count;
+use crate::plain::greater;
+use crate::plain::lesser;
+use crate::plain::minus;
+use crate::plain::over;
+use crate::plain::plus;
+use crate::plain::put;
+use crate::plain::rest;
+use crate::plain::times;
+
+// A number from 0 to n - 1, by multiplying modulo 2^31 - 1.
+pub fn roll(dice: &mut [u64], n: u64) -> u64 {
+    let next = rest(times(at(dice, 0), 48271), 2147483647);
+    put(dice, 0, next);
+    rest(over(next, 16), n)
+}
+
+// Whether a book's table is kept small by limits near 0, as more loads or more slots would pass the work area.
+fn is_tight(slots: u64, loads: u64) -> bool {
+    slots > 2 && plus(slots, loads) > 5
+}
+
+// A fineness for which most books fit the work area.
+fn draw_fineness(dice: &mut [u64], slots: u64, loads: u64) -> u64 {
+    let any = roll(dice, 32) == 0;
+    if any || is_tight(slots, loads) {
+        plus(1, roll(dice, 64))
+    } else if slots == 1 {
+        plus(1, roll(dice, lesser(64, over(160, loads))))
+    } else if slots == 2 {
+        plus(1, roll(dice, greater(1, over(8, loads))))
+    } else {
+        1
+    }
+}
+
+// A limit: 0, near 0, below the first step above 1, a multiple of N × d and a little more, or any.
+fn draw_limit(dice: &mut [u64], book: &[u64]) -> u64 {
+    let parts = times(fields::loads(book), fields::fineness(book));
+    let kind = roll(dice, 16);
+    if kind == 0 {
+        roll(dice, 65536)
+    } else if kind == 1 {
+        0
+    } else if is_tight(fields::slots(book), fields::loads(book)) {
+        roll(dice, minus(6, fields::slots(book)))
+    } else if kind < 6 {
+        roll(dice, times(2, parts))
+    } else {
+        let step = plus(1, roll(dice, lesser(200, minus(over(65535, parts), 1))));
+        plus(times(parts, step), roll(dice, lesser(step, parts)))
+    }
+}
+
+// T in turn, then N and d; the budget is the most there is.
+fn draw_header(dice: &mut [u64], tally: &mut [u64], book: &mut [u64], turn: u64) {
+    let slots = plus(1, rest(turn, 4));
+    let loads = plus(1, roll(dice, 8));
+    put(book, 0, slots);
+    put(book, 1, loads);
+    put(book, 2, draw_fineness(dice, slots, loads));
+    put(book, 3, 0xFFFFFFFF);
+    count(tally, plus(kinds::BOOKS, slots), true);
+}
+
+fn draw_slot(dice: &mut [u64], tally: &mut [u64], book: &mut [u64], slot: u64) {
+    let limit = draw_limit(dice, book);
+    put(book, plus(4, slot), limit);
+    count(tally, kind_of_slot(book, slot), true);
+}
+
+fn draw_slots(dice: &mut [u64], tally: &mut [u64], book: &mut [u64]) {
+    for slot in 0..fields::slots(book) {
+        draw_slot(dice, tally, book, slot);
+    }
+}
+
+fn kind_of_slot(book: &[u64], slot: u64) -> u64 {
+    if fields::limit(book, slot) == 0 {
+        kinds::LIMIT_ZERO
+    } else if fields::step(book, slot) == 1 {
+        kinds::STEP_ONE
+    } else {
+        kinds::STEP_ABOVE_ONE
+    }
+}
+
+// As many options as the enumeration bears, and whether the load is a twin of the one before.
+fn draw_options(dice: &mut [u64], book: &[u64]) -> u64 {
+    let twin = roll(dice, 6);
+    put(dice, 1, twin);
+    let loads = fields::loads(book);
+    if loads < 5 {
+        plus(1, roll(dice, 3))
+    } else if loads == 5 {
+        plus(1, roll(dice, 2))
+    } else {
+        1
+    }
+}
+
+// Worth: of few values, so that there are ties, or any.
+fn draw_worth(dice: &mut [u64]) -> u64 {
+    if roll(dice, 3) == 0 {
+        roll(dice, 65536)
+    } else {
+        roll(dice, 4)
+    }
+}
+
+// P: such that some of the loads fit together, and now and then any.
+fn draw_active(dice: &mut [u64], book: &[u64], slot: u64) -> u64 {
+    if roll(dice, 40) == 0 {
+        roll(dice, 65536)
+    } else {
+        let share = over(times(3, fields::limit(book, slot)), fields::loads(book));
+        lesser(65535, roll(dice, plus(share, 2)))
+    }
+}
+
+// Q of 16 bits: 0, as large as P on either side of 0, or between.
+fn draw_reactive(dice: &mut [u64], active: u64) -> u64 {
+    let kind = roll(dice, 7);
+    let far = roll(dice, plus(active, 1));
+    if kind == 0 {
+        0
+    } else if kind == 1 {
+        lesser(active, 32767)
+    } else if kind == 2 {
+        fields::negative(lesser(active, 32768))
+    } else if kind < 5 {
+        lesser(far, 32767)
+    } else {
+        fields::negative(lesser(far, 32768))
+    }
+}
+
+// A load's number: its o comes first, then worth, P and Q of each option.
+fn draw_number(dice: &mut [u64], book: &[u64], i: u64) -> u64 {
+    let place = rest(i, fields::LOAD);
+    let field = rest(minus(place, 1), fields::OPTION);
+    let slot = over(minus(field, 1), 2);
+    if place == 0 {
+        draw_options(dice, book)
+    } else if i > fields::LOAD && at(dice, 1) < 2 {
+        twin_number(
+            at(book, minus(plus(8, i), fields::LOAD)),
+            at(dice, 1),
+            field,
+        )
+    } else if field == 0 {
+        draw_worth(dice)
+    } else if rest(field, 2) == 1 {
+        draw_active(dice, book, slot)
+    } else {
+        draw_reactive(dice, at(book, plus(7, i)))
+    }
+}
+
+// The number of a twin: as that of the load before, or with Q turned about so that the two cancel.
+fn twin_number(before: u64, turned: u64, field: u64) -> u64 {
+    if turned == 0 || field == 0 || rest(field, 2) == 1 {
+        before
+    } else if before < 32768 {
+        fields::negative(before)
+    } else {
+        lesser(32767, fields::below(before))
+    }
+}
+
+// Counts a number by kind, where the book uses it.
+fn count_number(tally: &mut [u64], dice: &[u64], book: &[u64], i: u64) {
+    let load = over(i, fields::LOAD);
+    let place = rest(i, fields::LOAD);
+    if load >= fields::loads(book) {} else if place == 0 {
+        let twin = at(dice, 1);
+        count(tally, plus(kinds::LOADS, fields::options(book, load)), true);
+        count(tally, plus(kinds::TWINS, twin), i > 0 && twin < 2);
+    } else if is_reactive(book, load, minus(place, 1)) {
+        count_reactive(tally, at(book, plus(8, i)), at(book, plus(7, i)));
+    }
+}
+
+// Whether the number at a place of a load's line is a Q that the book uses.
+fn is_reactive(book: &[u64], load: u64, place: u64) -> bool {
+    let field = rest(place, fields::OPTION);
+    over(place, fields::OPTION) < fields::options(book, load)
+        && field > 0
+        && field <= times(2, fields::slots(book))
+        && rest(field, 2) == 0
+}
+
+fn count_reactive(tally: &mut [u64], q: u64, active: u64) {
+    let far = plus(fields::above(q), fields::below(q));
+    count(tally, kinds::PAIRS, true);
+    count(tally, kinds::BELOW_ZERO, fields::below(q) > 0);
+    count(tally, kinds::AS_LARGE, active > 0 && far == active);
+}
+
+fn draw_place(dice: &mut [u64], tally: &mut [u64], book: &mut [u64], i: u64) {
+    let n = draw_number(dice, book, i);
+    put(book, plus(8, i), n);
+    count_number(tally, dice, book, i);
+}
+
+fn draw_loads(dice: &mut [u64], tally: &mut [u64], book: &mut [u64]) {
+    for i in 0..224 {
+        draw_place(dice, tally, book, i);
+    }
+}
+
+// The book of a turn.
+pub fn draw_book(dice: &mut [u64], tally: &mut [u64], book: &mut [u64], turn: u64) {
+    draw_header(dice, tally, book, turn);
+    draw_slots(dice, tally, book);
+    draw_loads(dice, tally, book);
+}

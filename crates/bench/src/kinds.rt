@@ -1,0 +1,108 @@
+// Where each count stands in the tally, and how the tally is printed.
+use crate::plain::at;
+use crate::plain::plus;
+use libc::STDOUT_FILENO;
+
+// Answers by their number: those of the planner, the quick planner and the sheet reader.
+pub const PLANNER: u64 = 0;
+
+pub const QUICK: u64 = 16;
+
+pub const READER: u64 = 32;
+
+// Books by T, from the next on.
+pub const BOOKS: u64 = 48;
+
+pub const LIMIT_ZERO: u64 = 53;
+
+pub const STEP_ONE: u64 = 54;
+
+pub const STEP_ABOVE_ONE: u64 = 55;
+
+// Loads by o, from the next on.
+pub const LOADS: u64 = 56;
+
+// Loads that are the one before again, and those with its Q turned about.
+pub const TWINS: u64 = 60;
+
+// Options and slots with a P and a Q; Q below 0; |Q| as large as P.
+pub const PAIRS: u64 = 62;
+
+pub const BELOW_ZERO: u64 = 63;
+
+pub const AS_LARGE: u64 = 64;
+
+// Books whose plan has equals in worth.
+pub const TIES: u64 = 65;
+
+// Damaged books with one fault and with two.
+pub const FAULTS: u64 = 66;
+
+// Comparisons, and those that differ.
+pub const COMPARED: u64 = 69;
+
+pub const DIFFER: u64 = 70;
+
+fn print(text: &[u8]) {
+    io::write_all(STDOUT_FILENO, text);
+}
+
+fn print_count(name: &[u8], n: u64) {
+    print(name);
+    io::print_decimal(STDOUT_FILENO, n);
+    print(b"\n");
+}
+
+fn print_answer(call: &[u8], number: u64, n: u64) {
+    if n > 0 {
+        print(call);
+        io::print_decimal(STDOUT_FILENO, number);
+        print_count(b": ", n);
+    }
+}
+
+// The answers of one call, by number.
+fn print_answers(call: &[u8], tally: &[u64], first: u64) {
+    for number in 0..14 {
+        print_answer(call, number, at(tally, plus(first, number)));
+    }
+}
+
+fn print_kinds(tally: &[u64]) {
+    print_count(b"books of 1 slot: ", at(tally, plus(BOOKS, 1)));
+    print_count(b"books of 2 slots: ", at(tally, plus(BOOKS, 2)));
+    print_count(b"books of 3 slots: ", at(tally, plus(BOOKS, 3)));
+    print_count(b"books of 4 slots: ", at(tally, plus(BOOKS, 4)));
+    print_count(b"books whose plan has equals: ", at(tally, TIES));
+    print_count(b"slots with limit 0: ", at(tally, LIMIT_ZERO));
+    print_count(b"slots with step 1: ", at(tally, STEP_ONE));
+    print_count(b"slots with a step above 1: ", at(tally, STEP_ABOVE_ONE));
+    print_count(b"loads with 1 option: ", at(tally, plus(LOADS, 1)));
+    print_count(b"loads with 2 options: ", at(tally, plus(LOADS, 2)));
+    print_count(b"loads with 3 options: ", at(tally, plus(LOADS, 3)));
+    print_count(b"loads that are the one before again: ", at(tally, TWINS));
+    print_count(
+        b"loads that cancel the one before: ",
+        at(tally, plus(TWINS, 1)),
+    );
+    print_count(b"pairs of P and Q: ", at(tally, PAIRS));
+    print_count(b"pairs with Q below 0: ", at(tally, BELOW_ZERO));
+    print_count(b"pairs with |Q| = P above 0: ", at(tally, AS_LARGE));
+    print_count(
+        b"damaged books with one fault: ",
+        at(tally, plus(FAULTS, 1)),
+    );
+    print_count(
+        b"damaged books with two faults: ",
+        at(tally, plus(FAULTS, 2)),
+    );
+}
+
+pub fn print_tally(tally: &[u64]) {
+    print_kinds(tally);
+    print_answers(b"planner, number ", tally, PLANNER);
+    print_answers(b"quick planner, number ", tally, QUICK);
+    print_answers(b"sheet reader, number ", tally, READER);
+    print_count(b"compared: ", at(tally, COMPARED));
+    print_count(b"differ: ", at(tally, DIFFER));
+}
