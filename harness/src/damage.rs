@@ -1,0 +1,153 @@
+//! Books damaged on purpose: faults aimed at one refusal each, and blind changes of bytes and lines.
+
+use crate::random::Random;
+
+/// A fault aimed at the given refusal of 1 to 8. What a damaged book is refused for in the end, the reference says.
+pub fn fault(random: &mut Random, text: &mut Vec<u8>, refusal: usize) {
+    match refusal {
+        1 => tear(random, text),
+        6 => beyond(random, text),
+        8 => text.extend_from_slice(random.pick(&[b"\n" as &[u8], b"0", b"0201\n", b"\0", b"\n\n", b"\xFF\n"])),
+        _ => damage_line(random, text, refusal),
+    }
+}
+
+/// Cuts the book short, often by its last LF alone.
+fn tear(random: &mut Random, text: &mut Vec<u8>) {
+    let left = match text.len() {
+        0 => 0,
+        length if random.one_in(2) => length - 1,
+        length => random.below(length),
+    };
+    text.truncate(left);
+}
+
+/// An N or a d outside its range.
+fn beyond(random: &mut Random, text: &mut [u8]) {
+    let (at, digits) = random.pick(&[(4, b"00"), (4, b"19"), (4, b"FF"), (6, b"00"), (6, b"41"), (6, b"FF")]);
+    put(text, at, digits);
+}
+
+fn put(text: &mut [u8], at: usize, digits: &[u8]) {
+    if let Some(field) = text.get_mut(at..at + digits.len()) {
+        field.copy_from_slice(digits);
+    }
+}
+
+/// Refusals 2, 3, 4, 5 and 7, on some line.
+fn damage_line(random: &mut Random, text: &mut Vec<u8>, refusal: usize) {
+    let slots = text.get(3).map_or(0, |digit| digit.wrapping_sub(b'0')) as usize;
+    let mut lines = lines(text);
+    if lines.is_empty() {
+        return;
+    }
+    let n = random.below(lines.len());
+    let line = &mut lines[n];
+    match refusal {
+        2 => smudge(random, line),
+        3 => go_astray(random, line),
+        4 => put(line, 2, random.pick(&[b"00", b"04", b"05", b"80", b"FF"])),
+        5 => misshape(random, line),
+        _ => slacken(random, line, slots),
+    }
+    *text = lines.concat();
+}
+
+/// The lines, each with its LF.
+fn lines(text: &[u8]) -> Vec<Vec<u8>> {
+    text.split_inclusive(|&byte| byte == b'\n')
+        .map(<[u8]>::to_vec)
+        .collect()
+}
+
+fn smudge(random: &mut Random, line: &mut [u8]) {
+    let at = random.below(line.len());
+    line[at] = random.pick(b"abcdefgGx/:@` \t\r\0\x7F\x80\xB0\xFF");
+}
+
+/// A kind that is not due, or fewer than 4 digits.
+fn go_astray(random: &mut Random, line: &mut Vec<u8>) {
+    if random.one_in(2) {
+        put(line, 0, random.pick(&[b"00", b"01", b"02", b"03", b"10", b"12", b"FF"]));
+    } else {
+        let kept = random.below(4);
+        if line.len() > kept {
+            line.drain(kept..line.len() - 1);
+        }
+    }
+}
+
+/// Digits too many or too few, or another number of slots or options.
+fn misshape(random: &mut Random, line: &mut Vec<u8>) {
+    let at = line.len() - 1;
+    match random.below(3) {
+        0 => put(line, 2, random.pick(&[b"01", b"02", b"03", b"04"])),
+        1 => drop(line.splice(at..at, vec![b'0'; random.pick(&[1, 2, 4, 8, 12])])),
+        _ => drop(line.drain(at.saturating_sub(random.pick(&[1, 2, 4, 8]))..at)),
+    }
+}
+
+/// A Q beyond P in one option and slot of a load line.
+fn slacken(random: &mut Random, line: &mut [u8], slots: usize) {
+    let (slots, options) = (slots.max(1), line.len() / (4 + 8 * slots.max(1)));
+    let option = 4 + random.below(options.max(1)) * (4 + 8 * slots);
+    let at = option + 4 + 8 * random.below(slots);
+    let powers: [&[u8]; 8] = [
+        b"0004FFFB",
+        b"00040005",
+        b"0000FFFF",
+        b"00000001",
+        b"7FFF8000",
+        b"00008000",
+        b"7FFE7FFF",
+        b"00FFFF00",
+    ];
+    put(line, at, random.pick(&powers));
+}
+
+/// The value that a byte is changed to; a number of styles that all bytes of a book can be changed in.
+pub fn changed(random: &mut Random, byte: u8, style: usize) -> u8 {
+    const FIXED: &[u8] = b"\n\r\0\xFF /:@G`g";
+    match style % STYLES {
+        0 if byte.is_ascii_uppercase() => byte.to_ascii_lowercase(),
+        0 => b'a',
+        1 => byte ^ 0x80,
+        2 => byte.wrapping_add(1),
+        3 => byte.wrapping_sub(1),
+        4..=6 => random.pick(b"0123456789ABCDEF"),
+        7 => random.word() as u8,
+        style => FIXED[style - 8],
+    }
+}
+
+/// The number of styles of `changed`.
+pub const STYLES: usize = 8 + 11;
+
+/// Inserts or deletes one to four bytes.
+pub fn shift(random: &mut Random, text: &mut Vec<u8>) {
+    let at = random.below(text.len() + 1);
+    let count = 1 + random.below(4);
+    if random.one_in(2) {
+        let bytes: Vec<u8> = (0..count).map(|_| plausible(random)).collect();
+        text.splice(at..at, bytes);
+    } else {
+        text.drain(at..text.len().min(at + count));
+    }
+}
+
+/// Exchanges two lines, repeats one or drops one.
+pub fn reorder(random: &mut Random, text: &mut Vec<u8>) {
+    let mut lines = lines(text);
+    let (i, j) = (random.below(lines.len()), random.below(lines.len()));
+    match random.below(3) {
+        0 => lines.swap(i, j),
+        1 => lines.insert(i, lines[j].clone()),
+        _ => drop(lines.remove(i)),
+    }
+    *text = lines.concat();
+}
+
+/// A digit mostly, or an LF: a byte that a reader going too far would take.
+pub fn plausible(random: &mut Random) -> u8 {
+    random.pick(b"0123456789ABCDEF0123456789ABCDEF\n\n")
+}

@@ -1,0 +1,373 @@
+//! The kinds of inputs that the archive is compared on. A run of a kind makes one call or more.
+
+use crate::damage::{changed, fault, plausible, reorder, shift, STYLES};
+use crate::draw::{self, Bounds};
+use crate::random::Random;
+use crate::reference::book::Book;
+use crate::reference::{sheet, Case, MOST_CELLS};
+use crate::session::Session;
+
+pub struct Kind {
+    pub name: &'static str,
+    /// The part of all inputs that is of this kind, in 10,000ths.
+    pub share: u64,
+    pub run: fn(&mut Session),
+}
+
+pub const KINDS: &[Kind] = &[
+    kind("small books", 1_280, small_books),
+    kind("larger grids", 100, larger_grids),
+    kind("many loads", 150, many_loads),
+    kind("large tables", 20, large_tables),
+    kind("budgets", 900, budgets),
+    kind("work areas", 700, work_areas),
+    kind("sheet buffers", 600, buffers),
+    kind("several shortages", 700, shortages),
+    kind("words of earlier plans", 400, earlier_words),
+    kind("oversize books", 400, oversize_books),
+    kind("1,048,576 cells", 2, full_tables),
+    kind("one fault", 1_000, one_fault),
+    kind("two faults", 800, two_faults),
+    kind("truncated books", 500, truncated_books),
+    kind("a byte changed", 900, changed_books),
+    kind("bytes inserted, deleted", 300, shifted_books),
+    kind("lines exchanged", 200, reordered_books),
+    kind("random bytes", 100, random_bytes),
+    kind("random digits", 100, random_digits),
+    kind("sheets of choices", 300, sheets_of_choices),
+    kind("sheets, a byte changed", 300, changed_sheets),
+    kind("sheets, cut or longer", 150, cut_sheets),
+    kind("sheets of other books", 50, foreign_sheets),
+    kind("sheets, level above o", 48, levels_above),
+];
+
+const fn kind(name: &'static str, share: u64, run: fn(&mut Session)) -> Kind {
+    Kind { name, share, run }
+}
+
+/// Runs kinds until so many inputs were compared, each kind by its share; gives the inputs of each kind.
+pub fn run(session: &mut Session, inputs: u64) -> Vec<u64> {
+    let mut done = vec![0; KINDS.len()];
+    while session.inputs() < inputs {
+        let behind = |&i: &usize| done[i] * 10_000 / KINDS[i].share;
+        let next = (0..KINDS.len()).min_by_key(behind).expect("there are kinds");
+        let before = session.inputs();
+        (KINDS[next].run)(session);
+        done[next] += session.inputs() - before;
+    }
+    done
+}
+
+/// Books that the reference plans in both ways.
+const SMALL: Bounds = Bounds {
+    fewest_loads: 1,
+    loads: 9,
+    choices: 1_200,
+    cells: 3_000,
+};
+
+const LARGER: Bounds = Bounds { cells: 60_000, ..SMALL };
+
+const MANY: Bounds = Bounds {
+    fewest_loads: 10,
+    loads: 24,
+    choices: u64::MAX,
+    cells: 5_000,
+};
+
+const LARGE: Bounds = Bounds { cells: 300_000, ..MANY };
+
+fn drawn(session: &mut Session, bounds: Bounds) -> Case {
+    case(&draw::book(&mut session.random, bounds))
+}
+
+fn case(book: &Book) -> Case {
+    Case::new(draw::text(book))
+}
+
+/// The words that a plan needs. Books that grew large by damage get few, and are refused as cramped.
+fn needed_words(case: &Case) -> usize {
+    match 4 * case.cells() {
+        need @ 0..=250_000 => need as usize,
+        _ => 1_000,
+    }
+}
+
+fn random_choice(random: &mut Random, book: &Book) -> Vec<usize> {
+    let levels = book.loads.iter().map(|load| load.levels.len());
+    levels.map(|o| random.below(o + 1)).collect()
+}
+
+fn random_sheet(random: &mut Random, book: &Book) -> Vec<u8> {
+    let any = random.word() >> 32;
+    let trials = random.pick(&[0, 1, 0xFFFF_FFFF, any, any]);
+    let choice = random_choice(random, book);
+    sheet::write(book, &choice, trials)
+}
+
+/// The three calls on a valid book, with more lent than is needed.
+fn all_calls(session: &mut Session, case: &Case) {
+    let Ok(book) = &case.book else { return };
+    let words = 4 * case.cells() as usize + session.random.below(50);
+    let buffer = case.sheet_bytes() + session.random.below(50);
+    session.plan(case, words, buffer);
+    session.quick(case, buffer);
+    let plan = case.planned();
+    session.read_sheet(case, &sheet::write(book, &plan.choice, plan.trials));
+    session.read_sheet(case, &case.quick(buffer).sheet);
+}
+
+/// One of the three calls on bytes that may be no book.
+fn one_call(session: &mut Session, case: &Case) {
+    let words = needed_words(case) + session.random.below(20);
+    let buffer = case.sheet_bytes() + session.random.below(20);
+    match session.random.below(3) {
+        0 => drop(session.plan(case, words, buffer)),
+        1 => session.quick(case, buffer),
+        _ => {
+            let random = &mut session.random;
+            let sheet = match &case.book {
+                Ok(book) => random_sheet(random, book),
+                Err(_) => (0..buffer).map(|_| plausible(random)).collect(),
+            };
+            session.read_sheet(case, &sheet);
+        }
+    }
+}
+
+fn small_books(session: &mut Session) {
+    let case = drawn(session, SMALL);
+    all_calls(session, &case);
+}
+
+fn larger_grids(session: &mut Session) {
+    let case = drawn(session, LARGER);
+    all_calls(session, &case);
+}
+
+fn many_loads(session: &mut Session) {
+    let case = drawn(session, MANY);
+    all_calls(session, &case);
+    let trials = case.planned().trials;
+    for budget in [trials, trials - 1] {
+        let case = case.with_budget(budget);
+        session.plan(&case, needed_words(&case), case.sheet_bytes());
+    }
+}
+
+fn large_tables(session: &mut Session) {
+    let mut draw = || drawn(session, LARGE);
+    let mut case = draw();
+    while case.cells() < LARGE.cells / 10 {
+        case = draw();
+    }
+    all_calls(session, &case);
+}
+
+fn budgets(session: &mut Session) {
+    let case = drawn(session, SMALL);
+    let trials = case.planned().trials;
+    let below = session.random.below(trials as usize) as u64;
+    for budget in [trials, trials - 1, trials + 1, 0, 0xFFFF_FFFF, below] {
+        let case = case.with_budget(budget);
+        session.plan(&case, needed_words(&case), case.sheet_bytes());
+    }
+}
+
+fn work_areas(session: &mut Session) {
+    let case = drawn(session, SMALL);
+    let need = needed_words(&case);
+    let (below, more) = (session.random.below(need), session.random.below(300));
+    for words in [need, need - 1, need + 1, need + more, below, 0] {
+        session.plan(&case, words, case.sheet_bytes());
+    }
+}
+
+fn buffers(session: &mut Session) {
+    let case = drawn(session, SMALL);
+    let need = case.sheet_bytes();
+    let (below, more) = (session.random.below(need), session.random.below(300));
+    for buffer in [need, need - 1, need + 1, need + more, below, 0] {
+        session.plan(&case, needed_words(&case), buffer);
+        session.quick(&case, buffer);
+    }
+}
+
+/// Too few words, too short a buffer and too small a budget at once, in all mixtures: which refusal comes first?
+fn shortages(session: &mut Session) {
+    let case = drawn(session, SMALL);
+    let (words, buffer) = (needed_words(&case), case.sheet_bytes());
+    let trials = case.planned().trials;
+    for mixture in 0..8 {
+        let short = |bit: usize| mixture >> bit & 1;
+        let case = case.with_budget(trials - short(2) as u64);
+        session.plan(&case, words - short(0), buffer - short(1));
+    }
+}
+
+/// The same plan with other words in the work area, and with those that a plan left: no answer depends on them.
+fn earlier_words(session: &mut Session) {
+    let case = drawn(session, SMALL);
+    let (words, buffer) = (needed_words(&case), case.sheet_bytes());
+    let first = session.plan(&case, words, buffer);
+    session.plan_over(&case, first.work.part(), buffer);
+    let other = drawn(session, SMALL);
+    let before = session.plan(&other, words.max(needed_words(&other)), other.sheet_bytes());
+    session.plan_over(&case, &before.work.part()[..words], buffer);
+}
+
+/// The planner refuses them, also where words or buffer are short too; the quick planner and the sheet reader do not.
+fn oversize_books(session: &mut Session) {
+    let mut book = draw::oversize(&mut session.random);
+    book.budget = session.random.pick(&[0, 100, 0xFFFF_FFFF]);
+    let case = case(&book);
+    let buffer = session.random.pick(&[0, case.sheet_bytes()]);
+    let words = session.random.below(2_000);
+    session.plan(&case, words, buffer);
+    session.quick(&case, case.sheet_bytes());
+    let sheet = random_sheet(&mut session.random, &book);
+    session.read_sheet(&case, &sheet);
+}
+
+/// The largest table that is let through, with its words and with one word less.
+fn full_tables(session: &mut Session) {
+    let case = case(&draw::full_table(&mut session.random));
+    let need = 4 * MOST_CELLS as usize;
+    session.plan(&case, need, case.sheet_bytes());
+    session.plan(&case, need - 1, case.sheet_bytes());
+}
+
+fn one_fault(session: &mut Session) {
+    faulty_book(session, 1);
+}
+
+fn two_faults(session: &mut Session) {
+    faulty_book(session, 2);
+}
+
+/// A book with faults, each aimed at one refusal of 1 to 8.
+fn faulty_book(session: &mut Session, faults: usize) {
+    let mut text = draw::text(&draw::book(&mut session.random, SMALL));
+    for _ in 0..faults {
+        let refusal = 1 + session.random.below(8);
+        fault(&mut session.random, &mut text, refusal);
+    }
+    let case = Case::new(text);
+    (0..3).for_each(|_| one_call(session, &case));
+}
+
+/// Every length that a book can be cut to.
+fn truncated_books(session: &mut Session) {
+    let text = draw::text(&draw::book(&mut session.random, SMALL));
+    for length in 0..text.len() {
+        one_call(session, &Case::new(text[..length].to_vec()));
+    }
+}
+
+/// Every byte of a book changed in turn, in one style.
+fn changed_books(session: &mut Session) {
+    let text = draw::text(&draw::book(&mut session.random, SMALL));
+    let style = session.random.below(STYLES);
+    for at in 0..text.len() {
+        let mut text = text.clone();
+        text[at] = changed(&mut session.random, text[at], style);
+        one_call(session, &Case::new(text));
+    }
+}
+
+fn shifted_books(session: &mut Session) {
+    let mut text = draw::text(&draw::book(&mut session.random, SMALL));
+    shift(&mut session.random, &mut text);
+    one_call(session, &Case::new(text));
+}
+
+fn reordered_books(session: &mut Session) {
+    let mut text = draw::text(&draw::book(&mut session.random, SMALL));
+    reorder(&mut session.random, &mut text);
+    one_call(session, &Case::new(text));
+}
+
+fn random_bytes(session: &mut Session) {
+    let random = &mut session.random;
+    let text = (0..random.below(60)).map(|_| random.word() as u8).collect();
+    one_call(session, &Case::new(text));
+}
+
+/// Digits and LFs after the start of a header or of nothing.
+fn random_digits(session: &mut Session) {
+    let random = &mut session.random;
+    let start = random.pick(&[
+        b"" as &[u8],
+        b"0",
+        b"01",
+        b"0101",
+        b"010101",
+        b"0101010100000020FFFF\n0201",
+    ]);
+    let mut text = start.to_vec();
+    text.extend((0..random.below(60)).map(|_| plausible(random)));
+    text.push(b'\n');
+    one_call(session, &Case::new(text));
+}
+
+/// Sheets of any choice with any trials number: the reader does not judge.
+fn sheets_of_choices(session: &mut Session) {
+    let case = drawn(session, MANY);
+    let Ok(book) = &case.book else { return };
+    for _ in 0..5 {
+        let sheet = random_sheet(&mut session.random, book);
+        session.read_sheet(&case, &sheet);
+    }
+}
+
+/// A small book's case and a sheet of it.
+fn case_and_sheet(session: &mut Session) -> (Case, Vec<u8>) {
+    let book = draw::book(&mut session.random, SMALL);
+    let sheet = random_sheet(&mut session.random, &book);
+    (case(&book), sheet)
+}
+
+/// Every byte of a sheet changed in turn, in one style.
+fn changed_sheets(session: &mut Session) {
+    let (case, sheet) = case_and_sheet(session);
+    let style = session.random.below(STYLES);
+    for at in 0..sheet.len() {
+        let mut sheet = sheet.clone();
+        sheet[at] = changed(&mut session.random, sheet[at], style);
+        session.read_sheet(&case, &sheet);
+    }
+}
+
+/// Every length that a sheet can be cut to, and some bytes more.
+fn cut_sheets(session: &mut Session) {
+    let (case, mut sheet) = case_and_sheet(session);
+    for length in 0..sheet.len() {
+        session.read_sheet(&case, &sheet[..length]);
+    }
+    for _ in 0..3 {
+        sheet.push(plausible(&mut session.random));
+        session.read_sheet(&case, &sheet);
+    }
+}
+
+/// A sheet of another book, and of a book that differs in one limit, worth or power.
+fn foreign_sheets(session: &mut Session) {
+    let (case, _) = case_and_sheet(session);
+    let (other, sheet) = case_and_sheet(session);
+    session.read_sheet(&case, &sheet);
+    let mut text = other.text.clone();
+    let at = session.random.below(text.len());
+    text[at] = changed(&mut session.random, text[at], 4);
+    session.read_sheet(&Case::new(text), &sheet);
+}
+
+/// Sheets that are right but for one c above its load's o.
+fn levels_above(session: &mut Session) {
+    let (case, mut sheet) = case_and_sheet(session);
+    let Ok(book) = &case.book else { return };
+    let k = session.random.below(book.loads.len());
+    let above = book.loads[k].levels.len() + 1;
+    let c = session.random.pick(&[above, 3, 4, 5, 7, 8, 16, 255]);
+    sheet[18 + 2 * k..20 + 2 * k].copy_from_slice(format!("{c:02X}").as_bytes());
+    session.read_sheet(&case, &sheet);
+}

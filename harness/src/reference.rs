@@ -1,0 +1,250 @@
+//! Document 01 in plain Rust, written from its text, for the archive's calls to be compared with.
+
+pub mod book;
+pub mod grid;
+pub mod plan;
+pub mod quick;
+pub mod sheet;
+
+use crate::Reading;
+use book::{code, Book};
+use plan::{by_enumeration, by_map, Plan, ENUMERATED};
+use std::cell::OnceCell;
+
+/// The book of document 01, "Trials at the bench".
+pub const BENCH: &[u8] = b"0101030400000064000A\n0201000500050005\n020100050004FFFC\n0201000400040000\n";
+
+/// The most cells that a book may have.
+pub const MOST_CELLS: u128 = 1 << 20;
+
+#[derive(Clone, Copy, Debug, PartialEq, Eq)]
+pub struct Refusal {
+    pub number: u64,
+    pub line: u64,
+}
+
+/// What a call has to leave: its answer, the bytes at the start of the sheet buffer (none on a refusal), and the number
+/// of words at the start of the work area that may hold anything afterwards.
+#[derive(Clone, Debug, Default)]
+pub struct Outcome {
+    pub answer: Reading,
+    pub sheet: Vec<u8>,
+    pub free_words: usize,
+}
+
+/// The bytes of a book, right or wrong, and what the three calls have to leave for it.
+pub struct Case {
+    pub text: Vec<u8>,
+    pub book: Result<Book, Refusal>,
+    planned: OnceCell<Planned>,
+}
+
+/// The plan, and what is wrong with the reference itself if its two ways to a plan differ.
+#[derive(Clone)]
+struct Planned {
+    plan: Plan,
+    doubt: Option<String>,
+}
+
+impl Planned {
+    fn new(book: &Book) -> Planned {
+        let plan = by_map(book);
+        let other = (book.choices() <= ENUMERATED).then(|| by_enumeration(book));
+        let doubt = other
+            .filter(|other| *other != plan)
+            .map(|other| format!("the reference's two ways differ: {plan:?}, {other:?}"));
+        Planned { plan, doubt }
+    }
+}
+
+impl Case {
+    pub fn new(text: Vec<u8>) -> Case {
+        let book = book::read(&text);
+        let planned = OnceCell::new();
+        Case { text, book, planned }
+    }
+
+    /// The case of the same book with another budget. The plan does not depend on the budget and is found once.
+    pub fn with_budget(&self, budget: u64) -> Case {
+        let mut text = self.text.clone();
+        text[8..16].copy_from_slice(format!("{budget:08X}").as_bytes());
+        Case {
+            planned: self.planned.clone(),
+            ..Case::new(text)
+        }
+    }
+
+    /// The plan of a book that was read.
+    pub fn planned(&self) -> &Plan {
+        let book = || self.book.as_ref().expect("a valid book");
+        &self.planned.get_or_init(|| Planned::new(book())).plan
+    }
+
+    pub fn doubt(&self) -> Option<&str> {
+        self.planned.get()?.doubt.as_deref()
+    }
+
+    /// The cells of a book that was read, 0 for another.
+    pub fn cells(&self) -> u128 {
+        self.book.as_ref().map_or(0, |book| grid::cells(&grid::slots(book)))
+    }
+
+    /// The bytes of a sheet of a book that was read, 0 for another.
+    pub fn sheet_bytes(&self) -> usize {
+        self.book.as_ref().map_or(0, sheet::length)
+    }
+
+    pub fn plan(&self, words: usize, buffer: usize) -> Outcome {
+        let outcome = self.plan_or_refusal(words, buffer);
+        let mut outcome = outcome.unwrap_or_else(refused);
+        if [0, 12].contains(&outcome.answer.number) {
+            outcome.free_words = 4 * self.cells() as usize;
+        }
+        outcome
+    }
+
+    fn plan_or_refusal(&self, words: usize, buffer: usize) -> Result<Outcome, Refusal> {
+        let book = self.book.as_ref().map_err(|refusal| *refusal)?;
+        refuse_if(self.cells() > MOST_CELLS, 9)?;
+        refuse_if((words as u128) < 4 * self.cells(), 10)?;
+        refuse_if(buffer < self.sheet_bytes(), 11)?;
+        let plan = self.planned();
+        refuse_if(plan.trials > book.budget, 12)?;
+        Ok(written(book, &plan.choice, plan.trials))
+    }
+
+    pub fn quick(&self, buffer: usize) -> Outcome {
+        self.quick_or_refusal(buffer).unwrap_or_else(refused)
+    }
+
+    fn quick_or_refusal(&self, buffer: usize) -> Result<Outcome, Refusal> {
+        let book = self.book.as_ref().map_err(|refusal| *refusal)?;
+        refuse_if(buffer < self.sheet_bytes(), 11)?;
+        Ok(written(book, &quick::choice(book), book.loads.len() as u64))
+    }
+
+    pub fn read_sheet(&self, sheet: &[u8]) -> Outcome {
+        self.reading_or_refusal(sheet).unwrap_or_else(refused)
+    }
+
+    fn reading_or_refusal(&self, sheet: &[u8]) -> Result<Outcome, Refusal> {
+        let book = self.book.as_ref().map_err(|refusal| *refusal)?;
+        let foreign = Refusal { number: 13, line: 0 };
+        let (choice, trials) = sheet::read(book, sheet).ok_or(foreign)?;
+        let answer = Reading {
+            worth: book.worth(&choice),
+            trials,
+            code: code(&choice),
+            ..Reading::default()
+        };
+        Ok(Outcome {
+            answer,
+            ..Outcome::default()
+        })
+    }
+}
+
+fn refuse_if(applies: bool, number: u64) -> Result<(), Refusal> {
+    (!applies).then_some(()).ok_or(Refusal { number, line: 0 })
+}
+
+fn refused(refusal: Refusal) -> Outcome {
+    let answer = Reading {
+        number: refusal.number,
+        line: refusal.line,
+        ..Reading::default()
+    };
+    Outcome {
+        answer,
+        ..Outcome::default()
+    }
+}
+
+fn written(book: &Book, choice: &[usize], trials: u64) -> Outcome {
+    let sheet = sheet::write(book, choice, trials);
+    let answer = Reading {
+        bytes: sheet.len() as u64,
+        worth: book.worth(choice),
+        trials,
+        ..Reading::default()
+    };
+    Outcome {
+        answer,
+        sheet,
+        free_words: 0,
+    }
+}
+
+/// The cases of "Trials at the bench"; those of steps and grid values stand in `grid`.
+#[cfg(test)]
+mod tests {
+    use super::*;
+
+    const ENOUGH: usize = 100_000;
+
+    fn planned(text: &str) -> Plan {
+        Case::new(text.into()).planned().clone()
+    }
+
+    fn refused_at(text: &str) -> (u64, u64) {
+        let answer = Case::new(text.into()).plan(ENOUGH, ENOUGH).answer;
+        (answer.number, answer.line)
+    }
+
+    #[test]
+    fn the_bench_book() {
+        let outcome = Case::new(BENCH.to_vec()).plan(ENOUGH, ENOUGH);
+        assert_eq!(outcome.sheet, b"040000000A0000000E010100\n050000000900000001000A\n");
+        assert_eq!((outcome.answer.worth, outcome.answer.trials), (10, 14));
+    }
+
+    #[test]
+    fn the_bench_book_planned_quickly() {
+        let outcome = Case::new(BENCH.to_vec()).quick(ENOUGH);
+        assert_eq!(outcome.sheet, b"040000000900000003000101\n0500000008FFFFFFFC000A\n");
+    }
+
+    #[test]
+    fn budgets() {
+        let case = Case::new(BENCH.to_vec());
+        let number = |budget| case.with_budget(budget).plan(ENOUGH, ENOUGH).answer.number;
+        assert_eq!((number(14), number(13)), (0, 12));
+    }
+
+    #[test]
+    fn both_run_within_the_slack() {
+        let plan = planned("01010201FFFFFFFF0064\n0201000300630000\n0201000300630000\n");
+        assert_eq!((plan.choice, plan.worth), (vec![1, 1], 6));
+    }
+
+    #[test]
+    fn among_equals_the_smaller_code() {
+        let plan = planned("01010201FFFFFFFF0064\n0201000300640000\n0201000300640000\n");
+        assert_eq!((plan.choice, plan.worth), (vec![1, 0], 3));
+    }
+
+    #[test]
+    fn a_limit_of_nothing() {
+        let plan = planned("01010201FFFFFFFF0000\n0201000100000000\n0201000100010000\n");
+        assert_eq!((plan.choice, plan.worth), (vec![1, 0], 1));
+    }
+
+    #[test]
+    fn refusals() {
+        assert_eq!(refused_at(""), (1, 1));
+        assert_eq!(refused_at("01010101FFFFFFFF0010\n020100010004FFFC\n"), (0, 0));
+        assert_eq!(refused_at("01010101FFFFFFFF0010\n020100010004FFFB\n"), (7, 2));
+    }
+
+    #[test]
+    fn a_sheet_is_read_back() {
+        let case = Case::new(BENCH.to_vec());
+        let sheet = case.plan(ENOUGH, ENOUGH).sheet;
+        let answer = case.read_sheet(&sheet).answer;
+        assert_eq!(
+            (answer.number, answer.code, answer.worth, answer.trials),
+            (0, 5, 10, 14)
+        );
+        assert_eq!(case.read_sheet(&sheet[1..]).answer.number, 13);
+    }
+}

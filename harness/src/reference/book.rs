@@ -1,0 +1,165 @@
+//! The book and its reader: document 01, "The book", and refusals 1 to 8.
+
+use super::Refusal;
+
+#[derive(Clone, Debug, PartialEq, Eq)]
+pub struct Book {
+    pub fineness: u64,
+    pub budget: u64,
+    pub limits: Vec<i64>,
+    pub loads: Vec<Load>,
+}
+
+/// A load's levels, without standing: level c is `levels[c - 1]`.
+#[derive(Clone, Debug, PartialEq, Eq)]
+pub struct Load {
+    pub levels: Vec<Level>,
+}
+
+/// An option: its worth, and P and Q of each slot.
+#[derive(Clone, Debug, PartialEq, Eq)]
+pub struct Level {
+    pub worth: u64,
+    pub powers: Vec<(i64, i64)>,
+}
+
+impl Book {
+    /// The options that a choice of the first loads takes; a standing load has none.
+    pub fn chosen<'a>(&'a self, choice: &'a [usize]) -> impl Iterator<Item = &'a Level> {
+        self.loads
+            .iter()
+            .zip(choice)
+            .filter(|(_, &c)| c > 0)
+            .map(|(load, &c)| &load.levels[c - 1])
+    }
+
+    pub fn worth(&self, choice: &[usize]) -> u64 {
+        self.chosen(choice).map(|level| level.worth).sum()
+    }
+
+    /// The true sums of P and Q in a slot.
+    pub fn sums(&self, choice: &[usize], slot: usize) -> (i64, i64) {
+        self.chosen(choice)
+            .map(|level| level.powers[slot])
+            .fold((0, 0), |(p, q), (dp, dq)| (p + dp, q + dq))
+    }
+
+    /// The number of choices, stopped at the largest number.
+    pub fn choices(&self) -> u64 {
+        self.loads.iter().fold(1, |product: u64, load| {
+            product.saturating_mul(load.levels.len() as u64 + 1)
+        })
+    }
+}
+
+/// The sum of c × 4^(k-1).
+pub fn code(choice: &[usize]) -> u64 {
+    choice.iter().rev().fold(0, |code, &c| 4 * code + c as u64)
+}
+
+/// The value of one digit, or nothing where the byte is none of 0-9 A-F.
+fn digit(byte: u8) -> Option<u64> {
+    match byte {
+        b'0'..=b'9' => Some(u64::from(byte - b'0')),
+        b'A'..=b'F' => Some(u64::from(byte - b'A') + 10),
+        _ => None,
+    }
+}
+
+/// The value of up to 16 digits.
+pub fn number(digits: &[u8]) -> Option<u64> {
+    digits
+        .iter()
+        .try_fold(0, |value, &byte| Some(16 * value + digit(byte)?))
+}
+
+/// The book in these bytes, or the first refusal of 1 to 8.
+pub fn read(bytes: &[u8]) -> Result<Book, Refusal> {
+    let (line, mut rest) = next_line(bytes, 1, 0x01)?;
+    let (load_count, mut book) = header(&line)?;
+    for k in 1..=load_count {
+        let (line, after) = next_line(rest, k + 1, 0x02)?;
+        book.loads.push(load(&line, book.limits.len())?);
+        rest = after;
+    }
+    match rest {
+        [] => Ok(book),
+        _ => Err(Refusal {
+            number: 8,
+            line: load_count + 2,
+        }),
+    }
+}
+
+/// A line without its LF; all bytes are digits, four or more.
+struct Line<'a> {
+    number: u64,
+    digits: &'a [u8],
+}
+
+impl Line<'_> {
+    fn field(&self, at: usize, count: usize) -> u64 {
+        number(&self.digits[at..at + count]).expect("the line is all digits")
+    }
+
+    fn refuse_unless(&self, holds: bool, number: u64) -> Result<(), Refusal> {
+        let line = self.number;
+        holds.then_some(()).ok_or(Refusal { number, line })
+    }
+}
+
+/// The line that is due at the start of `rest`, and what follows it; refusals 1 to 3.
+fn next_line(rest: &[u8], number: u64, kind: u64) -> Result<(Line<'_>, &[u8]), Refusal> {
+    let end = rest.iter().position(|&byte| byte == b'\n');
+    let end = end.ok_or(Refusal {
+        number: 1,
+        line: number,
+    })?;
+    let digits = &rest[..end];
+    let line = Line { number, digits };
+    line.refuse_unless(digits.iter().all(|&byte| digit(byte).is_some()), 2)?;
+    line.refuse_unless(digits.len() >= 4 && line.field(0, 2) == kind, 3)?;
+    Ok((line, &rest[end + 1..]))
+}
+
+/// N, and the book without its loads; refusals 4 to 6.
+fn header(line: &Line) -> Result<(u64, Book), Refusal> {
+    let slots = line.field(2, 2) as usize;
+    line.refuse_unless((1..=4).contains(&slots), 4)?;
+    line.refuse_unless(line.digits.len() == 16 + 4 * slots, 5)?;
+    let load_count = line.field(4, 2);
+    let fineness = line.field(6, 2);
+    let in_range = (1..=24).contains(&load_count) && (1..=64).contains(&fineness);
+    line.refuse_unless(in_range, 6)?;
+    let book = Book {
+        fineness,
+        budget: line.field(8, 8),
+        limits: (0..slots).map(|s| line.field(16 + 4 * s, 4) as i64).collect(),
+        loads: Vec::new(),
+    };
+    Ok((load_count, book))
+}
+
+/// A load; refusals 4, 5 and 7.
+fn load(line: &Line, slots: usize) -> Result<Load, Refusal> {
+    let options = line.field(2, 2) as usize;
+    line.refuse_unless((1..=3).contains(&options), 4)?;
+    let digits = 4 + 8 * slots;
+    line.refuse_unless(line.digits.len() == 4 + options * digits, 5)?;
+    let levels: Vec<Level> = (0..options).map(|i| level(line, 4 + i * digits, slots)).collect();
+    let mut powers = levels.iter().flat_map(|level| &level.powers);
+    line.refuse_unless(powers.all(|&(p, q)| q.abs() <= p), 7)?;
+    Ok(Load { levels })
+}
+
+fn level(line: &Line, at: usize, slots: usize) -> Level {
+    let power = |s: usize| {
+        let at = at + 4 + 8 * s;
+        let q = line.field(at + 4, 4) as u16 as i16;
+        (line.field(at, 4) as i64, i64::from(q))
+    };
+    Level {
+        worth: line.field(at, 4),
+        powers: (0..slots).map(power).collect(),
+    }
+}

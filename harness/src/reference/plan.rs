@@ -1,0 +1,130 @@
+//! The plan and the trials, found in two ways: document 01, "The plan" and "Trials and the work area".
+
+use super::book::{code, Book};
+use super::grid::{slots, Slot};
+use std::cmp::Reverse;
+use std::collections::{HashMap, HashSet};
+
+/// Up to this number of choices a book is planned in both ways.
+pub const ENUMERATED: u64 = 2_048;
+
+#[derive(Clone, Debug, PartialEq, Eq)]
+pub struct Plan {
+    pub choice: Vec<usize>,
+    pub worth: u64,
+    pub trials: u64,
+}
+
+/// A list of grid pairs (a, b), one pair a slot.
+type Pairs = Vec<(i64, i64)>;
+
+/// Worth first, then the smaller code: the greater rank is the better choice.
+type Rank = (u64, Reverse<u64>);
+
+/// By going through every choice, as the text has it.
+pub fn by_enumeration(book: &Book) -> Plan {
+    let slots = slots(book);
+    let mut best: Option<(Rank, Vec<usize>)> = None;
+    each_choice(book, book.loads.len(), |choice| {
+        let rank = (book.worth(choice), Reverse(code(choice)));
+        let better = best.as_ref().is_none_or(|(held, _)| rank > *held);
+        if better && admitted(&slots, &pairs(book, &slots, choice)) {
+            best = Some((rank, choice.to_vec()));
+        }
+    });
+    let ((worth, _), choice) = best.expect("all standing is admitted");
+    let trials = (0..book.loads.len())
+        .map(|k| lists(book, &slots, k) * settings(book, k))
+        .sum();
+    Plan { choice, worth, trials }
+}
+
+/// The number of things that load k + 1 can do: o plus 1.
+fn settings(book: &Book, k: usize) -> u64 {
+    book.loads[k].levels.len() as u64 + 1
+}
+
+fn each_choice(book: &Book, loads: usize, mut visit: impl FnMut(&[usize])) {
+    let mut choice = vec![0; loads];
+    loop {
+        visit(&choice);
+        let can_rise = |&k: &usize| choice[k] < book.loads[k].levels.len();
+        let Some(k) = (0..loads).find(can_rise) else {
+            return;
+        };
+        choice[..k].fill(0);
+        choice[k] += 1;
+    }
+}
+
+fn pairs(book: &Book, slots: &[Slot], choice: &[usize]) -> Pairs {
+    let mut pairs = vec![(0, 0); slots.len()];
+    for level in book.chosen(choice) {
+        add(&mut pairs, slots, &level.powers);
+    }
+    pairs
+}
+
+fn add(pairs: &mut [(i64, i64)], slots: &[Slot], powers: &[(i64, i64)]) {
+    for ((pair, slot), &(p, q)) in pairs.iter_mut().zip(slots).zip(powers) {
+        pair.0 += slot.grid_value(p);
+        pair.1 += slot.grid_value(q);
+    }
+}
+
+fn within_bounds(slots: &[Slot], pairs: &[(i64, i64)]) -> bool {
+    slots.iter().zip(pairs).all(|(slot, &(a, _))| a <= slot.bound)
+}
+
+fn admitted(slots: &[Slot], pairs: &[(i64, i64)]) -> bool {
+    slots.iter().zip(pairs).all(|(slot, &(a, b))| slot.admits(a, b))
+}
+
+/// H(k).
+fn lists(book: &Book, slots: &[Slot], k: usize) -> u64 {
+    let mut seen = HashSet::new();
+    each_choice(book, k, |choice| {
+        let pairs = pairs(book, slots, choice);
+        if within_bounds(slots, &pairs) {
+            seen.insert(pairs);
+        }
+    });
+    seen.len() as u64
+}
+
+/// By a map from each list of grid pairs to the best rank that reaches it, loads in order.
+///
+/// Lists with a > R are dropped at once: a never falls, so no later H counts them, and aL > S, so none is admitted.
+pub fn by_map(book: &Book) -> Plan {
+    let slots = slots(book);
+    let mut layer: HashMap<Pairs, Rank> = HashMap::from([(vec![(0, 0); slots.len()], (0, Reverse(0)))]);
+    let mut trials = 0;
+    for k in 0..book.loads.len() {
+        trials += layer.len() as u64 * settings(book, k);
+        layer = next_layer(book, &slots, k, &layer);
+    }
+    let admitted = layer.iter().filter(|(pairs, _)| admitted(&slots, pairs));
+    let (worth, Reverse(code)) = *admitted.map(|(_, rank)| rank).max().expect("all standing is admitted");
+    Plan {
+        choice: (0..book.loads.len()).map(|k| (code >> (2 * k)) as usize % 4).collect(),
+        worth,
+        trials,
+    }
+}
+
+fn next_layer(book: &Book, slots: &[Slot], k: usize, layer: &HashMap<Pairs, Rank>) -> HashMap<Pairs, Rank> {
+    let mut next = layer.clone();
+    for (pairs, &(worth, Reverse(code))) in layer {
+        for (level, c) in book.loads[k].levels.iter().zip(1..) {
+            let mut pairs = pairs.clone();
+            add(&mut pairs, slots, &level.powers);
+            if within_bounds(slots, &pairs) {
+                let rank = (worth + level.worth, Reverse(code + (c << (2 * k))));
+                next.entry(pairs)
+                    .and_modify(|held| *held = rank.max(*held))
+                    .or_insert(rank);
+            }
+        }
+    }
+    next
+}

@@ -1,0 +1,121 @@
+//! A run of the differential tests: makes calls, compares each with the reference and counts.
+
+use crate::call::{lend_bytes, lend_words, Call, Function};
+use crate::random::Random;
+use crate::reference::{Case, Outcome};
+
+/// How many differences are kept for printing.
+const MOST_DIFFERENCES: usize = 20;
+
+/// The functions with their names, in the order of the table of refusals.
+const FUNCTIONS: [(Function, &str); 3] = [
+    (Function::Plan, "plan"),
+    (Function::Quick, "quick"),
+    (Function::ReadSheet, "read_sheet"),
+];
+
+pub struct Session {
+    pub random: Random,
+    /// Done to every call before it is compared: nothing, but for the self-check.
+    alter: fn(&mut Call),
+    pub passed: u64,
+    pub failed: u64,
+    /// Inputs by function and by the number that was expected.
+    refusals: [[u64; 14]; 3],
+    pub differences: Vec<String>,
+}
+
+impl Session {
+    pub fn new(seed: u64, alter: fn(&mut Call)) -> Session {
+        Session {
+            random: Random::new(seed),
+            alter,
+            passed: 0,
+            failed: 0,
+            refusals: [[0; 14]; 3],
+            differences: Vec::new(),
+        }
+    }
+
+    /// The number of calls made so far.
+    pub fn inputs(&self) -> u64 {
+        self.passed + self.failed
+    }
+
+    /// The planner, with so many words and bytes lent, which hold anything.
+    pub fn plan(&mut self, case: &Case, words: usize, buffer: usize) -> Call {
+        let words = self.words(words);
+        self.plan_over(case, &words, buffer)
+    }
+
+    /// The planner, with these words in the work area.
+    pub fn plan_over(&mut self, case: &Case, words: &[u64], buffer: usize) -> Call {
+        let expected = case.plan(words.len(), buffer);
+        let sheet = self.bytes(buffer);
+        self.call(Function::Plan, case, words, &sheet, &expected)
+    }
+
+    pub fn quick(&mut self, case: &Case, buffer: usize) {
+        let expected = case.quick(buffer);
+        let sheet = self.bytes(buffer);
+        self.call(Function::Quick, case, &[], &sheet, &expected);
+    }
+
+    pub fn read_sheet(&mut self, case: &Case, sheet: &[u8]) {
+        let expected = case.read_sheet(sheet);
+        self.call(Function::ReadSheet, case, &[], sheet, &expected);
+    }
+
+    fn call(&mut self, function: Function, case: &Case, words: &[u64], sheet: &[u8], expected: &Outcome) -> Call {
+        let book = lend_bytes(&mut self.random, &case.text);
+        let work = lend_words(&mut self.random, words);
+        let sheet = lend_bytes(&mut self.random, sheet);
+        let mut call = Call::new(function, book, work, sheet);
+        (self.alter)(&mut call);
+        let mut complaints = call.complaints(expected);
+        complaints.extend(case.doubt().map(str::to_string));
+        self.refusals[function as usize][expected.answer.number as usize] += 1;
+        self.count(&call, &complaints);
+        call
+    }
+
+    fn count(&mut self, call: &Call, complaints: &[String]) {
+        if complaints.is_empty() {
+            self.passed += 1;
+            return;
+        }
+        self.failed += 1;
+        if self.differences.len() < MOST_DIFFERENCES {
+            self.differences
+                .push(format!("{}\n  {}", call.input(), complaints.join("\n  ")));
+        }
+    }
+
+    /// Bytes of any value for a sheet buffer.
+    fn bytes(&mut self, count: usize) -> Vec<u8> {
+        (0..count).map(|_| self.random.word() as u8).collect()
+    }
+
+    /// Words for a work area: of any value, all alike, or small ones as an earlier plan leaves them.
+    fn words(&mut self, count: usize) -> Vec<u64> {
+        match self.random.below(5) {
+            0 => vec![0; count],
+            1 => vec![u64::MAX; count],
+            2 => (0..count).map(|_| self.random.word() % 40).collect(),
+            _ => (0..count).map(|_| self.random.word()).collect(),
+        }
+    }
+
+    /// Inputs by function and number, as lines of text.
+    pub fn refusal_table(&self) -> String {
+        let mut table = format!("{:<12}", "number");
+        (0..14).for_each(|number| table += &format!("{number:>7}"));
+        for (function, name) in FUNCTIONS {
+            table += &format!("\n{name:<12}");
+            for count in self.refusals[function as usize] {
+                table += &format!("{:>7}", if count == 0 { "-".into() } else { count.to_string() });
+            }
+        }
+        table
+    }
+}

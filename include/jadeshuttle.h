@@ -1,0 +1,152 @@
+/*
+ * jadeshuttle.h - the load planner, for programs in C99 and C++.
+ *
+ * Three calls. Each takes a load book and gives an answer by value:
+ *
+ *   jadeshuttle_plan        the planner: writes the sheet of the best plan
+ *   jadeshuttle_quick       the quick planner: level 1 only, smallest loads first
+ *   jadeshuttle_read_sheet  the sheet reader: whether a sheet belongs to a book
+ *
+ * docs/HANDBOOK.md describes the book and the sheet field by field, what the
+ * limits mean for a relay, and how large a work area a book needs.
+ *
+ * LINKING  Name target/staticlib/libjadeshuttle.a after your own files. It calls
+ * memcpy and memset of the C library, and nothing else.
+ *
+ * MEMORY THAT YOU LEND
+ *   - A call uses the memory only until it returns. It keeps no pointer.
+ *   - Lengths are in elements: bytes for a book and a sheet, 64-bit words for the
+ *     work area.
+ *   - No pointer may be NULL, not even where its length is 0. `work` is aligned
+ *     as a uint64_t is.
+ *   - All the bytes that a length names are yours to lend. No length names more
+ *     than PTRDIFF_MAX bytes.
+ *   - What is written may overlap nothing else: `work` and `sheet` lie apart from
+ *     each other and from `book`. The sheet reader writes nothing, so its two
+ *     arguments may overlap.
+ *   - `work` and `sheet` need no first values. No answer depends on them.
+ *
+ * The calls cannot test these points. Where one is broken, nothing is promised.
+ * Of the bytes in the book, nothing is asked: every input has an answer.
+ *
+ * WHAT A CALL LEAVES BEHIND
+ *   - With a sheet (number 0): the first `bytes` bytes of the sheet buffer are the
+ *     sheet. It is no C string: no 0 byte follows. The rest of the buffer keeps
+ *     its values.
+ *   - With a refusal: no byte of the sheet buffer changes.
+ *   - The work area: with a sheet or refusal 12, the first 4 x cells words hold
+ *     anything, and the words past them keep their values. With refusals 1 to 11
+ *     no word changes.
+ *   - The book never changes.
+ *
+ * THREADS  There is no state. Calls may run at the same time in several threads,
+ * as long as each has its own `work` and `sheet`. They may share a book.
+ *
+ * STACK, HEAP  Nothing is allocated. Stack used by a call, as measured on x86-64
+ * Linux, the same for every book that was tried: planner 79 KiB, quick planner 55
+ * KiB, sheet reader 34 KiB. Leave 128 KiB of stack for a call.
+ *
+ * ERRORS  A call always returns. It prints nothing, and sets no errno.
+ */
+#ifndef JADESHUTTLE_H
+#define JADESHUTTLE_H
+
+#include <stddef.h>
+#include <stdint.h>
+
+#ifdef __cplusplus
+extern "C" {
+#endif
+
+/* Bounds. Buffers of these sizes are large enough for every book. */
+#define JADESHUTTLE_BOOK_MAX 2745     /* bytes of the longest book: T = 4, N = 24, three levels each */
+#define JADESHUTTLE_SHEET_MAX 159     /* bytes of the longest sheet: 19 + 2N + 23T for N = 24, T = 4 */
+#define JADESHUTTLE_CELLS_MAX 1048576 /* cells; a book with more is refused as oversize */
+#define JADESHUTTLE_WORK_MAX 4194304  /* words of the work area for that many cells: 4 a cell, 32 MiB */
+
+/*
+ * What `number` says. Lines are read in order, and on each line 1 to 7 are tried
+ * in this order, as far as they concern it; then 8 to 13. The first that applies
+ * is given. `line` is the number of the line in the book, from 1, for 1 to 8; it
+ * is 0 for success and for 9 to 13.
+ */
+enum jadeshuttle_number {
+    JADESHUTTLE_SUCCESS = 0,
+    /* All three calls: the book. */
+    JADESHUTTLE_TORN = 1,      /* a line is due and no LF follows */
+    JADESHUTTLE_SMUDGED = 2,   /* a byte of the line is no digit 0-9 A-F */
+    JADESHUTTLE_STRAY = 3,     /* fewer than 4 digits, or kind not the one due */
+    JADESHUTTLE_CROWDED = 4,   /* T not 1 to 4; o not 1 to 3 */
+    JADESHUTTLE_MISSHAPEN = 5, /* number of digits not the stated one */
+    JADESHUTTLE_BEYOND = 6,    /* N not 1 to 24, or d not 1 to 64; line 1 */
+    JADESHUTTLE_SLACK = 7,     /* |Q| > P in some option and slot */
+    JADESHUTTLE_TRAILING = 8,  /* bytes remain after the last load line; line N + 2 */
+    /* The planner only. */
+    JADESHUTTLE_OVERSIZE = 9, /* cells over 1,048,576 */
+    JADESHUTTLE_CRAMPED = 10, /* work area under 4 x cells words */
+    /* The planner and the quick planner. */
+    JADESHUTTLE_NO_SHEET = 11, /* buffer shorter than the sheet */
+    /* The planner only. */
+    JADESHUTTLE_SPENT = 12, /* trials over the budget */
+    /* The sheet reader only. */
+    JADESHUTTLE_FOREIGN = 13 /* no choice and no trials number give this sheet for this book */
+};
+
+/* What the planners answer. With a refusal, bytes, worth and trials are 0. */
+typedef struct jadeshuttle_answer {
+    uint64_t number; /* 0, or the refusal's number */
+    uint64_t line;   /* the refused line of the book, or 0 */
+    uint64_t bytes;  /* bytes of the sheet that were written */
+    uint64_t worth;  /* worth of the sheet's choice */
+    uint64_t trials; /* the book's trials; for the quick planner, N */
+} jadeshuttle_answer;
+
+/* What the sheet reader answers. With a refusal, all after line is 0. */
+typedef struct jadeshuttle_reading {
+    uint64_t number;
+    uint64_t line;
+    uint64_t bytes;  /* always 0: the reader writes nothing */
+    uint64_t worth;  /* worth of the sheet's choice */
+    uint64_t trials; /* the trials that the sheet states; not compared with the book's */
+    uint64_t code;   /* the choice: load k has level (code >> 2 * (k - 1)) & 3, and 0 is standing */
+} jadeshuttle_reading;
+
+/*
+ * The planner. Writes the sheet of the plan: the admitted choice of greatest
+ * worth, and among equals the one with the smallest code. Gives 1 to 12.
+ *
+ * Of every sheet it gives, with P and Q the true sums in a slot and S its limit:
+ *   - no choice that keeps P*P + Q*Q <= S*S in every slot is worth more;
+ *   - d*d * (P*P + Q*Q) <= (d+2)*(d+2) * S*S in every slot;
+ *   - P*P + Q*Q <= S*S in every slot where S < 2*N*d.
+ *
+ * 4 x cells words of work area are needed. The time grows with the book's trials,
+ * which the budget in the book bounds.
+ */
+jadeshuttle_answer jadeshuttle_plan(const uint8_t *book, size_t book_len,
+                                    uint64_t *work, size_t work_len,
+                                    uint8_t *sheet, size_t sheet_len);
+
+/*
+ * The quick planner. Takes level 1 of a load or leaves it standing: smallest
+ * P*P + Q*Q (summed over the slots) first, each load once. Its sheet keeps
+ * P*P + Q*Q <= S*S in every slot, whatever d is, but may be worth far less than
+ * the plan. It needs no work area and has no bound on cells or trials. Gives 1 to
+ * 8 and 11.
+ */
+jadeshuttle_answer jadeshuttle_quick(const uint8_t *book, size_t book_len,
+                                     uint8_t *sheet, size_t sheet_len);
+
+/*
+ * The sheet reader. Accepts a sheet whose bytes are exactly those that some choice
+ * and some trials number give for this book; all `sheet_len` bytes count. It does
+ * not judge whether the choice is good. Gives 1 to 8 for the book, and 13.
+ */
+jadeshuttle_reading jadeshuttle_read_sheet(const uint8_t *book, size_t book_len,
+                                           const uint8_t *sheet, size_t sheet_len);
+
+#ifdef __cplusplus
+}
+#endif
+
+#endif
