@@ -53,14 +53,18 @@ pub fn put(work: &mut [u64], x: usize, c: Cell)
     work[2 * x + 1] = c.code;
 }
 
-// Offers the cell `to` the choice of the cell `from`, with a setting's gain and digit.
+// Offers the cell `to` the choice of the cell `from`, with a setting's gain and digit. An empty cell offers nothing, and the cell `to` is
+// not touched: most cells of a sparse table are empty.
 pub fn offer_cell(work: &mut [u64], from: usize, to: usize, gain: u64, digit: u64)
     requires { ⌜ (2 * from + 1 < length (now work)) × (2 * to + 1 < length (now work)) ⌝ }
     requires { ⌜ Room (cellAt (now work) from) gain digit ⌝ }
     ensures { λ _. ⌜ now (work .exit) ≡ offeredAt (now (work .entry)) from to gain digit ⌝ }
 {
-    let old = get(work, to);
     let src = get(work, from);
+    if src.worth == 0 {
+        return;
+    }
+    let old = get(work, to);
     put(work, to, old.offer(src, gain, digit));
 }
 
