@@ -101,7 +101,8 @@ module _ {lows highs : List ℕ} (grid : Grid) (row : ℕ) (load : LoadMoves) (s
       → joinUpto (load .count) (offerOf ws lows highs grid cur load row col) ≡ none
   beside-span ws cur col k n = offers-none ws lows highs grid cur load row col (λ m h o. let i = q .each m h col k o in n (i .0) (i .1))
 
-  pub row-empty : (ws : List ℕ) (cur next : ℕ) → span .high ≤ span .low → RowMade ws ws lows highs grid cur next load row (record { low = 0; high = 0; count = 0 })
+  pub row-empty : (ws : List ℕ) (cur next : ℕ) {asked : Bool} → span .high ≤ span .low
+      → RowMade ws ws lows highs grid cur next load row asked (record { low = 0; high = 0; count = 0 })
   row-empty ws cur next h = record {
     same-length = refl;
     low-fits = omega arith;
@@ -109,8 +110,9 @@ module _ {lows highs : List ℕ} (grid : Grid) (row : ℕ) (load : LoadMoves) (s
     inside = λ col k. held-high ws (next + row * grid .width) 0 0 col (omega arith)
         ∙ sym (beside-span ws cur col k (λ a b. omega arith));
     outside = λ x n. refl;
-    counted = sym (count-none (grid .width) (λ col. isSome (heldIn ws (next + row * grid .width) 0 0 col))
+    counted = λ _. sym (count-none (grid .width) (λ col. isSome (heldIn ws (next + row * grid .width) 0 0 col))
         (λ i k. ap isSome (held-high ws (next + row * grid .width) 0 0 i (omega arith))));
+    count-fits = omega arith;
   }
 
   pub span-ends : (row * grid .width + grid .width ≤ grid .cells) × (span .high ≤ grid .width)
@@ -148,9 +150,10 @@ module _ {lows highs : List ℕ} (grid : Grid) (row : ℕ) (load : LoadMoves) (s
             (λ m o. offer-same lows highs grid g cleared load row col m l)
             ∙ raise-offers grid cur load room row col l
 
-        pub row-made : {n : ℕ} → LoadRoom ws lows highs grid cur load → n ≡ countUpto (span .high - span .low) (reached ws₂ (next + row * grid .width + span .low))
-            → RowMade ws ws₂ lows highs grid cur next load row (record { low = span .low; high = span .high; count = n })
-        row-made {n} room counted = record {
+        pub row-made : {n : ℕ} {asked : Bool} → LoadRoom ws lows highs grid cur load
+            → (asked ≡ true → n ≡ countUpto (span .high - span .low) (reached ws₂ (next + row * grid .width + span .low))) → n ≤ span .high - span .low
+            → RowMade ws ws₂ lows highs grid cur next load row asked (record { low = span .low; high = span .high; count = n })
+        row-made {n} room counted few = record {
           same-length = r .same-length ∙ f .same-length;
           low-fits = q .end .0;
           high-fits = q .end .1;
@@ -162,10 +165,11 @@ module _ {lows highs : List ℕ} (grid : Grid) (row : ℕ) (load : LoadMoves) (s
               (split col (span .high)))
               (split col (span .low));
           outside = λ x o. r .outside x o ∙ f .outside x (λ j k e. o (span .low + j) (omega (arith, span-ends)) (omega arith));
-          counted = counted
+          counted = λ t. counted t
               ∙ count-same (span .high - span .low) (reached ws₂ (at + span .low)) (λ j. isSome (heldIn ws₂ at (span .low) (span .high) (span .low + j))) same
               ∙ sym (count-part (span .low) (span .high) (grid .width) (λ col. isSome (heldIn ws₂ at (span .low) (span .high) col)) (omega arith) (q .end .1)
               (λ i k. ap isSome (held-low ws₂ at (span .low) (span .high) i k)) (λ i k. ap isSome (held-high ws₂ at (span .low) (span .high) i k)));
+          count-fits = omega (arith, span-ends);
         }
           where
             at : ℕ
@@ -213,7 +217,7 @@ module _ {ws ws′ lows highs lows′ highs′ : List ℕ} (grid : Grid) (cur ne
   pub layer-room : LoadRoom ws lows highs grid cur load → LoadRoom ws′ lows highs grid cur load
   layer-room = room-same lows highs grid g passed
 
-  module _ {ws″ : List ℕ} {m : Made} (q : RowMade ws′ ws″ lows highs grid cur next load row m) where
+  module _ {ws″ : List ℕ} {asked : Bool} {m : Made} (q : RowMade ws′ ws″ lows highs grid cur next load row asked m) where
     a : row < length lows′
     a = omega (arith, r .low-length, g .rows-fit)
 
@@ -255,19 +259,15 @@ module _ {ws ws′ lows highs lows′ highs′ : List ℕ} (grid : Grid) (cur ne
           ∙ r .outside x (λ y k e. h y (omega (arith, next-row row (grid .width))) e);
     }
 
-    pub layer-count : {n : ℕ} → n ≡ countRows row (grid .width) (held ws′ lows′ highs′ next (grid .width))
+    pub layer-count : {n : ℕ} → asked ≡ true → n ≡ countRows row (grid .width) (held ws′ lows′ highs′ next (grid .width))
         → n + m .count ≡ countRows (row + 1) (grid .width) (held ws″ (set lows′ row (m .low)) (set highs′ row (m .high)) next (grid .width))
     unfolding countRows
-    layer-count e =
+    layer-count t e =
         ap₂ _+_
         (e ∙ sym (rows-count row (grid .width) (held ws″ (set lows′ row (m .low)) (set highs′ row (m .high)) next (grid .width)) (held ws′ lows′ highs′ next (grid .width)) earlier))
-        (q .counted ∙ sym (count-same (grid .width) (λ col. isSome (held ws″ (set lows′ row (m .low)) (set highs′ row (m .high)) next (grid .width) row col))
+        (q .counted t ∙ sym (count-same (grid .width) (λ col. isSome (held ws″ (set lows′ row (m .low)) (set highs′ row (m .high)) next (grid .width) row col))
         (λ col. isSome (heldIn ws″ (next + row * grid .width) (m .low) (m .high) col)) (λ col k. ap isSome (latest col))))
         ∙ ap (λ n. countRows n (grid .width) (held ws″ (set lows′ row (m .low)) (set highs′ row (m .high)) next (grid .width))) (sym (add-one row))
-
-pub row-count : {ws ws′ lows highs : List ℕ} {grid : Grid} {cur next row : ℕ} {load : LoadMoves} {m : Made} → RowMade ws ws′ lows highs grid cur next load row m → m .count ≤ grid .width
-row-count {ws′ = ws′} {grid = grid} {next = next} {row = row} {m = m} q =
-    omega (arith, q .counted, count-le (grid .width) (λ col. isSome (heldIn ws′ (next + row * grid .width) (m .low) (m .high) col)))
 
 pub layer-all : {ws ws′ lows highs lows′ highs′ : List ℕ} {grid : Grid} {cur next : ℕ} {load : LoadMoves} {n rows : ℕ} → n ≤ rows → rows ≤ n
     → LayerMade ws ws′ lows highs lows′ highs′ grid cur next load n → LayerMade ws ws′ lows highs lows′ highs′ grid cur next load rows

@@ -155,15 +155,16 @@ pub record RowKeys (ws ws′ : List ℕ) (at width : ℕ) (f : ℕ → Option Ke
   pub inside : (col : ℕ) → col < width → keyOf (cellAt ws′ (at + col)) ≡ f col
   pub outside : (x : ℕ) → ((col : ℕ) → col < width → x ≡ at + col → ⊥) → cellAt ws′ x ≡ cellAt ws x
 
--- a row of the next layer made from the current one: its stretch, what it holds, and how many cells it holds
-pub record RowMade (ws ws′ lows highs : List ℕ) (grid : Grid) (cur next : ℕ) (load : LoadMoves) (row : ℕ) (r : Made) : Type 0 where
+-- a row of the next layer made from the current one: its stretch, what it holds, and how many cells it holds where that was asked for
+pub record RowMade (ws ws′ lows highs : List ℕ) (grid : Grid) (cur next : ℕ) (load : LoadMoves) (row : ℕ) (asked : Bool) (r : Made) : Type 0 where
   pub same-length : length ws′ ≡ length ws
   pub low-fits : r .low ≤ grid .width
   pub high-fits : r .high ≤ grid .width
   pub inside : (col : ℕ) → col < grid .width → heldIn ws′ (next + row * grid .width) (r .low) (r .high) col
       ≡ joinUpto (load .count) (offerOf ws lows highs grid cur load row col)
   pub outside : (x : ℕ) → ((col : ℕ) → col < grid .width → x ≡ next + row * grid .width + col → ⊥) → cellAt ws′ x ≡ cellAt ws x
-  pub counted : r .count ≡ countUpto (grid .width) (λ col. isSome (heldIn ws′ (next + row * grid .width) (r .low) (r .high) col))
+  pub counted : asked ≡ true → r .count ≡ countUpto (grid .width) (λ col. isSome (heldIn ws′ (next + row * grid .width) (r .low) (r .high) col))
+  pub count-fits : r .count ≤ grid .width
 
 -- from row `used` on nothing is held
 pub record Idle (lows highs : List ℕ) (used : ℕ) : Type 0 where

@@ -2,6 +2,7 @@
 // setting in ascending order, the row that lies as far back as the setting's active powers say. Of each row only a stretch of columns
 // counts.
 ghost use mathlib.Core.Path.{_≡_};
+ghost use mathlib.Core.Bool.{true};
 ghost use Prim.Native.Nat.{ℕ, _+_, _-_, _*_, _<_, _≤_};
 ghost use lib.ListN.{length, getD};
 ghost use Rattle.table.specs.Table.{Rows};
@@ -39,7 +40,7 @@ pub struct Stretch {
     pub high: usize,
 }
 
-// A row that was made: its stretch, and how many of its cells hold something.
+// A row that was made: its stretch, and how many of its cells hold something, where that was asked for.
 pub struct Made {
     pub low: usize,
     pub high: usize,
@@ -242,7 +243,7 @@ pub fn settings_row(
     }
 }
 
-// Makes one row of the next layer.
+// Makes one row of the next layer, and counts its reached cells where that is asked for.
 pub fn load_row(
     work: &mut [u64],
     grid: Grid,
@@ -252,6 +253,7 @@ pub fn load_row(
     highs: &[usize; 724],
     row: usize,
     load: LoadMoves,
+    asked: bool,
 ) -> Made
     requires { ⌜ GridFits grid ⌝ }
     requires { ⌜ Rows (now work) cur next (grid .cells) ⌝ }
@@ -259,7 +261,7 @@ pub fn load_row(
     requires { ⌜ row < grid .rows ⌝ }
     requires { ⌜ LoadFits grid load ⌝ }
     requires { ⌜ LoadRoom (now work) (now lows) (now highs) grid cur load ⌝ }
-    ensures { λ r. ⌜ RowMade (now (work .entry)) (now (work .exit)) (now (lows .entry)) (now (highs .entry)) grid cur next load row r ⌝ }
+    ensures { λ r. ⌜ RowMade (now (work .entry)) (now (work .exit)) (now (lows .entry)) (now (highs .entry)) grid cur next load row asked r ⌝ }
 {
     let s = span_of(grid, lows, highs, row, load);
     if s.low < s.high {
@@ -267,7 +269,7 @@ pub fn load_row(
         let len = s.high - s.low;
         table::clear(work, at, len);
         settings_row(work, grid, cur, next, lows, highs, row, load);
-        let count = table::count_row(work, at, len);
+        let count = table::count_if(work, at, len, asked);
         return Made {
             low: s.low,
             high: s.high,
@@ -312,7 +314,8 @@ pub fn farther(r: usize, used: usize, back: usize, rows: usize) -> usize
     r
 }
 
-// Makes the next layer and its stretches from the current one, and counts its reached cells. Only `rows` rows can be reached.
+// Makes the next layer and its stretches from the current one, and counts its reached cells where that is asked for. Only `rows` rows
+// can be reached.
 pub fn load_pass(
     work: &mut [u64],
     grid: Grid,
@@ -325,6 +328,7 @@ pub fn load_pass(
     load: LoadMoves,
     used: usize,
     rows: usize,
+    asked: bool,
 ) -> usize
     requires { ⌜ GridFits grid ⌝ }
     requires { ⌜ Rows (now work) cur next (grid .cells) ⌝ }
@@ -336,13 +340,13 @@ pub fn load_pass(
     requires { ⌜ Idle (now newlows) (now newhighs) rows ⌝ }
     requires { ⌜ Reaches grid load used rows ⌝ }
     ensures { λ _. ⌜ Idle (now (newlows .exit)) (now (newhighs .exit)) rows ⌝ }
-    ensures { λ r. ⌜ r ≡ countRows (grid .rows) (grid .width) (held (now (work .exit)) (now (newlows .exit)) (now (newhighs .exit)) next (grid .width)) ⌝ }
+    ensures { λ r. ⌜ (asked ≡ true → r ≡ countRows (grid .rows) (grid .width) (held (now (work .exit)) (now (newlows .exit)) (now (newhighs .exit)) next (grid .width))) ⌝ }
     ensures { λ _. ⌜ LayerMade (now (work .entry)) (now (work .exit)) (now (lows .entry)) (now (highs .entry)) (now (newlows .exit)) (now (newhighs .exit)) grid cur next load (grid .rows) ⌝ }
 {
     let mut reached: usize = 0;
     let mut row: usize = 0;
     while row < rows {
-        let made = load_row(work, grid, cur, next, lows, highs, row, load);
+        let made = load_row(work, grid, cur, next, lows, highs, row, load, asked);
         newlows[row] = made.low;
         newhighs[row] = made.high;
         reached += made.count;

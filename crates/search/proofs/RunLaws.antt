@@ -151,7 +151,7 @@ module _ {grid : Grid} {origin n : ℕ} {moves : List LoadMoves} (m : Modelled g
         beyond = λ x h. refl;
       };
       layer = layer-first;
-      reached-is = sym (layer-count m layer-first ∙ sym (reached-cells (m .r) n (m .slots) [] (ready-take (m .r) n (m .slots) (m .loads) 0 (m .ready))) ∙ reached-none (m .slots));
+      reached-is = λ _. sym (layer-count m layer-first ∙ sym (reached-cells (m .r) n (m .slots) [] (ready-take (m .r) n (m .slots) (m .loads) 0 (m .ready))) ∙ reached-none (m .slots));
       trials-are = refl;
     }
 
@@ -176,17 +176,17 @@ module _ {grid : Grid} {origin n : ℕ} {moves : List LoadMoves} (m : Modelled g
 
     pub run-tries : (reached ≤ 1048576) × (movesOf moves k .count ≤ 4)
     run-tries = (
-      omega (arith, run .reached-is, rows-count-le (grid .rows) (grid .width) (held ws₁ lows highs cur (grid .width)), grid-fits m .area, m .grid-is .cells-fit),
+      omega (arith, run .reached-is l, rows-count-le (grid .rows) (grid .width) (held ws₁ lows highs cur (grid .width)), grid-fits m .area, m .grid-is .cells-fit),
       load-fits m k l .count-fits,
     )
 
     pub run-trials : {t : ℕ} → t ≡ reached * movesOf moves k .count → trials + t ≡ trialsOf m (suc k)
     run-trials e =
-        ap₂ _+_ (run .trials-are) (e ∙ ap₂ _*_ (run .reached-is ∙ layer-count m (run .layer)) (m .each k l .count-is))
+        ap₂ _+_ (run .trials-are) (e ∙ ap₂ _*_ (run .reached-is l ∙ layer-count m (run .layer)) (m .each k l .count-is))
         ∙ sym (trials-step (m .r) n (m .slots) (m .loads) (m .ready) k)
 
     pub run-more : {ws₂ lows′ highs′ : List ℕ} {t reached′ : ℕ} → t ≡ reached * movesOf moves k .count
-        → reached′ ≡ countRows (grid .rows) (grid .width) (held ws₂ lows′ highs′ (grid .cells - cur) (grid .width))
+        → (k + 1 < n → reached′ ≡ countRows (grid .rows) (grid .width) (held ws₂ lows′ highs′ (grid .cells - cur) (grid .width)))
         → LayerMade ws₁ ws₂ lows highs lows′ highs′ grid cur (grid .cells - cur) (movesOf moves k) (grid .rows)
         → Run ws ws₂ lows′ highs′ grid origin n moves m (k + 1) (grid .cells - cur) reached′ (trials + t)
     run-more e c made = record {

@@ -118,7 +118,7 @@ trialsOf m k = trialsUpto (m .slots) (m .loads) k
 pub record Run (ws ws′ lows highs : List ℕ) (grid : Grid) (origin n : ℕ) (moves : List LoadMoves) (m : Modelled grid origin n moves) (k cur reached trials : ℕ) : Type 0 where
   pub places : Places ws ws′ lows highs grid cur
   pub layer : LayerIs ws′ lows highs grid origin n moves m k cur
-  pub reached-is : reached ≡ countRows (grid .rows) (grid .width) (held ws′ lows highs cur (grid .width))
+  pub reached-is : k < n → reached ≡ countRows (grid .rows) (grid .width) (held ws′ lows highs cur (grid .width))
   pub trials-are : trials ≡ trialsOf m k
 
 -- what the search of n loads gives: the trials, if they are within the budget, and then the last layer; else that they are not

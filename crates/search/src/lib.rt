@@ -33,7 +33,8 @@ pub struct Ran {
     pub highs: [usize; 724],
 }
 
-// The passes of the first n loads over a first layer that is made, as long as the trials are within the budget.
+// The passes of the first n loads over a first layer that is made, as long as the trials are within the budget. No trial depends on what
+// the last pass reaches, so it is not counted.
 pub fn run_loads(
     work: &mut [u64],
     grid: Grid,
@@ -85,6 +86,7 @@ pub fn run_loads(
             load,
             used,
             rows,
+            k + 1 < n,
         );
         used = rows;
         lows = newlows;

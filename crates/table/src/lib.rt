@@ -2,7 +2,7 @@
 ghost use mathlib.Core.Path.{_≡_};
 ghost use Prim.Native.Nat.{_+_, _*_, _<_, _≤_};
 ghost use lib.ListN.{length};
-ghost use mathlib.Core.Bool.{cond};
+ghost use mathlib.Core.Bool.{cond, true};
 ghost use lib.Dec.{ltb};
 ghost use Rattle.model.proofs.CellLaws.{countUpto};
 ghost use Rattle.table.specs.Table.{cellAt, putAt, offered, offeredAt, Room, Rows, Roomy, Filled, offeredRow, noCell, reached};
@@ -101,6 +101,17 @@ pub fn count_row(work: &[u64], at: usize, len: usize) -> usize
         j += 1;
     }
     count
+}
+
+// The same count where one is asked for.
+pub fn count_if(work: &[u64], at: usize, len: usize, asked: bool) -> usize
+    requires { ⌜ 2 * (at + len) ≤ length (now work) ⌝ }
+    ensures { λ r. ⌜ (asked ≡ true → r ≡ countUpto len (reached (now (work .entry)) at)) × (r ≤ len) ⌝ }
+{
+    if asked {
+        return count_row(work, at, len);
+    }
+    0
 }
 
 // Empties the `len` cells from `at` on.

@@ -4,25 +4,26 @@ use borrow.Author.Needs.{needs}
 use native.Mathlib.Omega.{arith}
 use Prim.Native.Nat.{_≤_, _-_, _*_}
 use mathlib.Core.Path.{_≡_, refl}
+use mathlib.Core.Bool.{true}
 use Rattle.pass.specs.Pass.{held, countRows, Idle, LayerMade}
 use Rattle.pass.proofs.SourceLaws.{row-end, next-row}
-use Rattle.pass.proofs.LayerLaws.{below, idle-set, layer-rest, layer-rest-count, layer-none, layer-rows, layer-room, layer-more, layer-count, row-count, layer-all, layer-total}
+use Rattle.pass.proofs.LayerLaws.{below, idle-set, layer-rest, layer-rest-count, layer-none, layer-rows, layer-room, layer-more, layer-count, layer-all, layer-total}
 use Rattle.pass.proofs.load_pass.Statement.{statement}
 use Rattle.pass.proofs.load_pass.Tie as tie
 
 abbrev Inv-loop : tie.InvT-loop
-Inv-loop work₀ grid cur next lows highs newlows₀ newhighs₀ load used rows reached₀ row₀ work newlows newhighs reached row =
+Inv-loop work₀ grid cur next lows highs newlows₀ newhighs₀ load used rows asked reached₀ row₀ work newlows newhighs reached row =
     (row ≤ rows) × (reached ≤ row * grid .width)
-    × (reached ≡ countRows row (grid .width) (held work newlows newhighs next (grid .width)))
+    × (asked ≡ true → reached ≡ countRows row (grid .width) (held work newlows newhighs next (grid .width)))
     × LayerMade work₀ work lows highs newlows newhighs grid cur next load row × Idle newlows newhighs rows
 
 abbrev μ-loop : tie.MeasureT-loop
-μ-loop work₀ grid cur next lows highs newlows₀ newhighs₀ load used rows reached₀ row₀ work newlows newhighs reached row =
+μ-loop work₀ grid cur next lows highs newlows₀ newhighs₀ load used rows asked reached₀ row₀ work newlows newhighs reached row =
     rows - row
 
 loop-holds : tie.Need-loop-holds Inv-loop μ-loop
 unfolding countRows
-loop-holds c = let p = c .before .pre in (omega arith, omega arith, refl, layer-none (p .1 .1 .1 .1 .1 .0 .0) (p .1 .1 .1 .1 .1 .0 .1), p .1 .1 .1 .1 .1 .1 .1 .0)
+loop-holds c = let p = c .before .pre in (omega arith, omega arith, (λ _. refl), layer-none (p .1 .1 .1 .1 .1 .0 .0) (p .1 .1 .1 .1 .1 .0 .1), p .1 .1 .1 .1 .1 .1 .1 .0)
 
 load-row-requires : tie.Need-load-row-requires Inv-loop μ-loop
 load-row-requires c κs =
@@ -47,7 +48,7 @@ add-reached : tie.Need-add-reached Inv-loop μ-loop
 add-reached c =
     let p = c .before .before .before .before .before .before .before .before .pre in
     let l = below (p .1 .1 .1 .1 .1 .1 .1 .1) (c .before .before .before .before .before .loop-test .taken) in
-    omega (arith, row-count (c .before .before .before .load-row .ensures), row-end (c .before .before .before .before .before .before .before .before .args .grid .width) l, p .0 .area, p .0 .cells-fit)
+    omega (arith, c .before .before .before .load-row .ensures .count-fits, row-end (c .before .before .before .before .before .before .before .before .args .grid .width) l, p .0 .area, p .0 .cells-fit)
 
 add-row : tie.Need-add-row Inv-loop μ-loop
 add-row c = search needs
@@ -63,8 +64,8 @@ loop-again c =
     let l = below (p .1 .1 .1 .1 .1 .1 .1 .1) t in
     let q = c .before .before .before .load-row .ensures in (
       omega arith,
-      omega (arith, row-count q, next-row (c .before .before .before .before .before .before .loop .row) (c .before .before .before .before .before .before .before .before .args .grid .width)),
-      layer-count _ _ _ _ _ (p .0) (p .1 .0) l (v .3) q (v .2),
+      omega (arith, q .count-fits, next-row (c .before .before .before .before .before .before .loop .row) (c .before .before .before .before .before .before .before .before .args .grid .width)),
+      (λ t. layer-count _ _ _ _ _ (p .0) (p .1 .0) l (v .3) q t (v .2 t)),
       layer-more _ _ _ _ _ (p .0) (p .1 .0) l (v .3) q,
       idle-set _ _ _ t (v .4),
     )
@@ -79,7 +80,7 @@ returns c =
     let i = p .1 .1 .1 .1 .1 .1 .0 in
     let f = p .1 .1 .1 .1 .1 .1 .1 .1 in
     let r = layer-all (v .0) (c .loop-test .left) (v .3) in
-    (v .4, (layer-rest-count i (v .4) f r (layer-total (c .before .before .before .args .grid .width) _ (v .0) (c .loop-test .left) (v .2)), layer-rest i (v .4) f r))
+    (v .4, ((λ t. layer-rest-count i (v .4) f r (layer-total (c .before .before .before .args .grid .width) _ (v .0) (c .loop-test .left) (v .2 t))), layer-rest i (v .4) f r))
 
 pub load-pass-spec : {M : Type 1} → statement M
 load-pass-spec =

@@ -64,8 +64,8 @@ settings-row-requires c κs =
       ),
     )
 
-count-row-requires : tie.Need-count-row-requires
-count-row-requires c κs =
+count-if-requires : tie.Need-count-if-requires
+count-if-requires c κs =
     let t = c .before .before .before .before .before .before .before .before .before .before .before .before in
     let p = t .before .before .before .before .pre in
     let q = t .before .before .span-of .ensures in
@@ -83,7 +83,7 @@ returns c =
     let q = t .before .before .span-of .ensures in
     let h = t .if1 .taken in
     let f = c .before .before .before .before .before .before .before .before .clear .ensures in
-    row-made _ _ _ _ (p .0) (p .1 .1 .1 .0) q (p .1 .0) h f (c .before .before .before .before .settings-row .ensures) (p .1 .1 .1 .1 .1) (c .count-row .ensures .0)
+    row-made _ _ _ _ (p .0) (p .1 .1 .1 .0) q (p .1 .0) h f (c .before .before .before .before .settings-row .ensures) (p .1 .1 .1 .1 .1) (c .count-if .ensures .0) (c .count-if .ensures .1)
 
 returns-2 : tie.Need-returns-2
 returns-2 c =
@@ -101,7 +101,7 @@ load-row-spec =
     sub-len
     clear-requires
     settings-row-requires
-    count-row-requires
+    count-if-requires
     same-length
     returns
     returns-2)

@@ -1,6 +1,7 @@
 -- `search::run_loads` meets its contract. The invariant: the layer, the reached cells and the trials are those of the first k loads.
 -- Assumes nothing.
 use borrow.Author.Needs.{needs}
+use borrow.Author.Tests.{lt-ltb}
 use native.Mathlib.Omega.{arith}
 use Prim.Native.Nat.{ℕ, _≤_, _-_, _*_}
 use mathlib.Core.Path.{_≡_}
@@ -62,6 +63,9 @@ sub-load-pass c =
     let p = c .before .before .before .before .before .before .before .before .pre in
     run-cur (p .1 .0) (c .before .before .before .before .before .loop-test .taken) (p .0) (c .before .before .before .before .before .before .loop .inv .7 (p .1 .0))
 
+add-load-pass : tie.Need-add-load-pass Inv-loop μ-loop
+add-load-pass c = omega (arith, c .before .before .before .before .before .before .before .before .before .before .before .before .pre .1 .0 .loads-fit)
+
 load-pass-requires : tie.Need-load-pass-requires Inv-loop μ-loop
 load-pass-requires c κs =
     let p = c .before .before .before .before .before .before .before .before .before .before .before .before .pre in
@@ -97,7 +101,7 @@ loop-again c =
       c .before .before .before .before .before .before .before .before .reach-of .ensures .fits,
       made .0,
       made .0,
-      λ m. run-more m l (p .0) (v .7 m) (t .0) (made .1 .0) (made .1 .1),
+      λ m. run-more m l (p .0) (v .7 m) (t .0) (λ h. made .1 .0 (lt-ltb _ _ h)) (made .1 .1),
     )
 
 same-length-2 : tie.Need-same-length-2 Inv-loop μ-loop
@@ -124,6 +128,7 @@ run-loads-spec =
     returns
     reach-of-requires
     sub-load-pass
+    add-load-pass
     load-pass-requires
     sub-cur
     add-k
