@@ -23,7 +23,7 @@ use Rattle.pass.specs.declared.Grid.{Grid}
 use Rattle.pass.specs.declared.LoadMoves.{LoadMoves}
 use Rattle.pass.specs.declared.Stretch.{Stretch}
 use Rattle.pass.specs.declared.Made.{Made}
-use Rattle.pass.specs.Pass.{heldIn, held, tried, sourceOf, moveOf, offerOf, raiseUpto, GridFits, LoadRoom, Offers, Spans, RowKeys, RowMade, Idle, Reaches, countRows, LayerMade, raisedRows}
+use Rattle.pass.specs.Pass.{heldIn, held, tried, sourceOf, moveOf, offerOf, raiseUpto, GridFits, LoadRoom, Offers, Spans, RowKeys, Vacant, RowMade, Idle, Reaches, countRows, LayerMade, raisedRows}
 use Rattle.pass.proofs.KeyLaws.{key-empty, shift-from, shift-below, raise-upto, upto-same, upto-none}
 use Rattle.pass.proofs.SourceLaws.{row-end, next-row, held-in, held-low, held-high, source-out, source-column, cond-bounded, Same, offer-same, room-same, rows-same}
 
@@ -131,6 +131,14 @@ module _ {lows highs : List ℕ} (grid : Grid) (row : ℕ) (load : LoadMoves) (s
 
       pub cleared-room : LoadRoom ws lows highs grid cur load → LoadRoom ws₁ lows highs grid cur load
       cleared-room = room-same lows highs grid g cleared
+
+      pub cleared-vacant : 0 < load .count → Vacant ws₁ lows highs grid next row (moveOf load 0)
+      unfolding noCell
+      cleared-vacant n col k o =
+          let i = q .each 0 n col k o in
+          let j : ℕ = col - span .low in
+          let e : next + row * grid .width + col ≡ next + row * grid .width + span .low + j = omega arith in
+          ap (λ x. keyOf (cellAt ws₁ x)) e ∙ ap keyOf (f .inside j (omega arith)) ∙ key-empty
 
       module _ {ws₂ : List ℕ} (r : RowKeys ws₁ ws₂ (next + row * grid .width) (grid .width) (raisedRows ws₁ lows highs grid cur next load row (load .count))) where
         pub count-room : 2 * (next + row * grid .width + span .low + (span .high - span .low)) ≤ length ws₂

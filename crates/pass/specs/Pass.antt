@@ -193,6 +193,15 @@ pub record LayerMade (ws ws′ lows highs lows′ highs′ : List ℕ) (grid : G
       ≡ joinUpto (load .count) (offerOf ws lows highs grid cur load row col)
   pub outside : (x : ℕ) → ((y : ℕ) → y < n * grid .width → x ≡ next + y → ⊥) → cellAt ws′ x ≡ cellAt ws x
 
+-- nothing is held where a setting offers something
+abbrev pub Vacant : List ℕ → List ℕ → List ℕ → Grid → ℕ → ℕ → SettingMove → Type 0
+Vacant ws lows highs grid next row mv =
+    (col : ℕ) → col < grid .width → Offers lows highs grid row mv col → keyOf (cellAt ws (next + row * grid .width + col)) ≡ none
+
+-- cells from `to` on after a setting offers them the cells from `from` on
+unfoldable pub raisedPart : List ℕ → ℕ → ℕ → ℕ → ℕ → ℕ → Option Key
+raisedPart ws from to gain digit j = raise (keyOf (cellAt ws (to + j))) (shift? gain digit (keyOf (cellAt ws (from + j))))
+
 -- a row of the next layer after a setting, and after the first n settings
 unfoldable pub raisedRow : List ℕ → List ℕ → List ℕ → Grid → ℕ → ℕ → SettingMove → ℕ → ℕ → Option Key
 unfolding sourceOf

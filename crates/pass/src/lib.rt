@@ -5,8 +5,9 @@ ghost use mathlib.Core.Path.{_≡_};
 ghost use mathlib.Core.Bool.{true};
 ghost use Prim.Native.Nat.{ℕ, _+_, _-_, _*_, _<_, _≤_};
 ghost use lib.ListN.{length, getD};
-ghost use Rattle.table.specs.Table.{Rows};
-ghost use Rattle.pass.specs.Pass.{coversFrom, GridFits, StretchesFit, MoveFits, MoveRoom, LoadFits, LoadRoom, Clipped, Part, Joined, Spans, RowKeys, RowMade, Idle, Reaches, LayerMade, raisedRow, raisedRows, held, countRows};
+ghost use mathlib.Core.Option.{none};
+ghost use Rattle.table.specs.Table.{Rows, Roomy, cellAt, keyOf};
+ghost use Rattle.pass.specs.Pass.{coversFrom, GridFits, StretchesFit, MoveFits, MoveRoom, LoadFits, LoadRoom, Clipped, Part, Joined, Spans, RowKeys, Vacant, raisedPart, moveOf, RowMade, Idle, Reaches, LayerMade, raisedRow, raisedRows, held, countRows};
 
 // What a setting does to a cell: the worth it adds, its digit in the code, how many rows back its source row is, how far the columns
 // move up and down, and its active coordinates.
@@ -188,7 +189,33 @@ pub fn span_of(
     s
 }
 
-// Offers one row of the next layer what a setting brings there.
+// Offers `len` cells what a setting brings from as many others. Where nothing is held there yet, a setting that adds nothing is copied.
+fn give_row(
+    work: &mut [u64],
+    from: usize,
+    to: usize,
+    len: usize,
+    gain: u64,
+    digit: u64,
+    vacant: bool,
+)
+    requires { ⌜ Rows (now work) from to len ⌝ }
+    requires { ⌜ Roomy (now work) from len gain digit ⌝ }
+    requires { ⌜ (vacant ≡ true → (j : ℕ) → j < len → keyOf (cellAt (now work) (to + j)) ≡ none) ⌝ }
+    ensures { λ _. ⌜ RowKeys (now (work .entry)) (now (work .exit)) to len (raisedPart (now (work .entry)) from to gain digit) ⌝ }
+{
+    if vacant {
+        if gain == 0 {
+            if digit == 0 {
+                table::copy_row(work, from, to, len);
+                return;
+            }
+        }
+    }
+    table::offer_row(work, from, to, len, gain, digit);
+}
+
+// Offers one row of the next layer what a setting brings there; `vacant` says that nothing is held there yet.
 pub fn setting_row(
     work: &mut [u64],
     grid: Grid,
@@ -198,6 +225,7 @@ pub fn setting_row(
     highs: &[usize; 724],
     row: usize,
     mv: SettingMove,
+    vacant: bool,
 )
     requires { ⌜ GridFits grid ⌝ }
     requires { ⌜ Rows (now work) cur next (grid .cells) ⌝ }
@@ -205,17 +233,26 @@ pub fn setting_row(
     requires { ⌜ row < grid .rows ⌝ }
     requires { ⌜ MoveFits grid mv ⌝ }
     requires { ⌜ MoveRoom (now work) (now lows) (now highs) grid cur (mv .gain) (mv .digit) ⌝ }
+    requires { ⌜ (vacant ≡ true → Vacant (now work) (now lows) (now highs) grid next row mv) ⌝ }
     ensures { λ _. ⌜ RowKeys (now (work .entry)) (now (work .exit)) (next + row * grid .width) (grid .width) (raisedRow (now (work .entry)) (now (lows .entry)) (now (highs .entry)) grid cur next mv row) ⌝ }
 {
     let part = part_of(grid, lows, highs, row, mv);
     if part.low < part.high {
         let from = cur + (row - mv.back) * grid.width + (part.low + mv.down - mv.up);
         let to = next + row * grid.width + part.low;
-        table::offer_row(work, from, to, part.high - part.low, mv.gain, mv.digit);
+        give_row(
+            work,
+            from,
+            to,
+            part.high - part.low,
+            mv.gain,
+            mv.digit,
+            vacant,
+        );
     }
 }
 
-// Offers one row of the next layer what each setting brings there, in turn.
+// Offers one row of the next layer what each setting brings there, in turn. Nothing is held yet where the first offers something.
 pub fn settings_row(
     work: &mut [u64],
     grid: Grid,
@@ -232,13 +269,14 @@ pub fn settings_row(
     requires { ⌜ row < grid .rows ⌝ }
     requires { ⌜ LoadFits grid load ⌝ }
     requires { ⌜ LoadRoom (now work) (now lows) (now highs) grid cur load ⌝ }
+    requires { ⌜ (0 < load .count → Vacant (now work) (now lows) (now highs) grid next row (moveOf load 0)) ⌝ }
     ensures { λ _. ⌜ RowKeys (now (work .entry)) (now (work .exit)) (next + row * grid .width) (grid .width) (raisedRows (now (work .entry)) (now (lows .entry)) (now (highs .entry)) grid cur next load row (load .count)) ⌝ }
 {
     let count = load.count;
     let mut n: usize = 0;
     while n < count {
         let mv = load.moves[n];
-        setting_row(work, grid, cur, next, lows, highs, row, mv);
+        setting_row(work, grid, cur, next, lows, highs, row, mv, n == 0);
         n += 1;
     }
 }

@@ -14,7 +14,7 @@ use Rattle.table.specs.declared.Cell.{Cell}
 use borrow.Author.Count.{below-more}
 use native.Mathlib.Nat.{not-suc-le-zero, le-antisymm}
 use Rattle.model.proofs.CellLaws.{isSome, countUpto}
-use Rattle.table.specs.Table.{cellAt, putAt, keyIf, keyOf, raised, offered, offeredAt, Room, Rows, Roomy, Filled, offeredRow, reached}
+use Rattle.table.specs.Table.{cellAt, putAt, keyIf, keyOf, raised, offered, offeredAt, Room, Rows, Roomy, Filled, offeredRow, copiedRow, reached}
 
 module _ (old src : Cell) (gain digit : ℕ) where
   pub offered-empty : src .worth ≡ 0 → old ≡ offered old src gain digit
@@ -106,6 +106,13 @@ module _ {ws ws′ : List ℕ} {from to len j : ℕ} (gain digit : ℕ) (rows : 
   pub offered-more-row : {ws″ : List ℕ} → ws″ ≡ offeredAt ws′ (from + j) (to + j) gain digit → Filled ws ws″ to (j + 1) (offeredRow ws from to gain digit)
   unfolding offeredAt offeredRow
   offered-more-row e = filled-more r (omega (arith, rows .target)) (e ∙ ap₂ (λ a b. putAt ws′ (to + j) (offered a b gain digit)) (target-kept rows l r) (source-kept rows l r))
+
+-- one cell more of `copy_row`
+pub copied-more : {ws ws′ ws″ : List ℕ} {from to len j : ℕ} {c : Cell} → Rows ws from to len → j < len → Filled ws ws′ to j (copiedRow ws from)
+    → c ≡ cellAt ws′ (from + j) → ws″ ≡ putAt ws′ (to + j) c → Filled ws ws″ to (j + 1) (copiedRow ws from)
+unfolding copiedRow
+copied-more {ws′ = ws′} {to = to} {j = j} rows l r c e =
+    filled-more r (omega (arith, rows .target)) (e ∙ ap (putAt ws′ (to + j)) (c ∙ source-kept rows l r))
 
 -- one cell more of `count_row`
 reached-worth : (c : Cell) → ltb 0 (c .worth) ≡ isSome (keyOf c)

@@ -65,6 +65,10 @@ Roomy ws from len gain digit = (j : ℕ) → j < len → Room (cellAt ws (from +
 unfoldable pub offeredRow : List ℕ → ℕ → ℕ → ℕ → ℕ → ℕ → Cell
 offeredRow ws from to gain digit j = offered (cellAt ws (to + j)) (cellAt ws (from + j)) gain digit
 
+-- the row at `from`
+unfoldable pub copiedRow : List ℕ → ℕ → ℕ → Cell
+copiedRow ws from j = cellAt ws (from + j)
+
 -- the empty cell
 unfoldable pub empty : Cell
 empty = record { worth = 0; code = 0 }

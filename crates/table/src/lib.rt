@@ -5,7 +5,7 @@ ghost use lib.ListN.{length};
 ghost use mathlib.Core.Bool.{cond, true};
 ghost use lib.Dec.{ltb};
 ghost use Rattle.model.proofs.CellLaws.{countUpto};
-ghost use Rattle.table.specs.Table.{cellAt, putAt, offered, offeredAt, Room, Rows, Roomy, Filled, offeredRow, noCell, reached};
+ghost use Rattle.table.specs.Table.{cellAt, putAt, offered, offeredAt, Room, Rows, Roomy, Filled, offeredRow, copiedRow, noCell, reached};
 
 // A cell: `worth` is 0 where it is empty, and else one more than the worth of its choice; `code` is the code of its choice.
 pub struct Cell {
@@ -77,6 +77,19 @@ pub fn offer_row(work: &mut [u64], from: usize, to: usize, len: usize, gain: u64
     let mut j: usize = 0;
     while j < len {
         offer_cell(work, from + j, to + j, gain, digit);
+        j += 1;
+    }
+}
+
+// Copies each of `len` cells, from `from` on, to the cell as far from `to`.
+pub fn copy_row(work: &mut [u64], from: usize, to: usize, len: usize)
+    requires { ⌜ Rows (now work) from to len ⌝ }
+    ensures { λ _. ⌜ Filled (now (work .entry)) (now (work .exit)) to len (copiedRow (now (work .entry)) from) ⌝ }
+{
+    let mut j: usize = 0;
+    while j < len {
+        let c = get(work, from + j);
+        put(work, to + j, c);
         j += 1;
     }
 }

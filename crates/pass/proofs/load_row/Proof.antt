@@ -3,7 +3,7 @@
 use native.Mathlib.Omega.{arith}
 use borrow.Author.Needs.{needs}
 use Prim.Native.Nat.{_≤_, _+_, _*_}
-use Rattle.pass.proofs.LayerLaws.{span-ends, clear-room, cleared-rows, cleared-room, count-room, row-made, row-empty}
+use Rattle.pass.proofs.LayerLaws.{span-ends, clear-room, cleared-rows, cleared-room, cleared-vacant, count-room, row-made, row-empty}
 use Rattle.pass.proofs.load_row.Statement.{statement}
 use Rattle.pass.proofs.load_row.Tie as tie
 
@@ -57,7 +57,10 @@ settings-row-requires c κs =
             p .1 .1 .1 .0,
             (
               p .1 .1 .1 .1 .0,
-              cleared-room _ _ _ _ (p .0) (p .1 .1 .1 .0) q (p .1 .0) h f (p .1 .1 .1 .1 .1),
+              (
+                cleared-room _ _ _ _ (p .0) (p .1 .1 .1 .0) q (p .1 .0) h f (p .1 .1 .1 .1 .1),
+                cleared-vacant _ _ _ _ (p .0) (p .1 .1 .1 .0) q (p .1 .0) h f,
+              ),
             ),
           ),
         ),

@@ -2,7 +2,7 @@
 -- Assumes nothing.
 use native.Mathlib.Omega.{arith}
 use borrow.Author.Needs.{needs}
-use Rattle.pass.proofs.MoveLaws.{Ends, move-ends, move-rows, move-roomy, move-keys, move-still}
+use Rattle.pass.proofs.MoveLaws.{Ends, move-ends, move-rows, move-roomy, move-vacant, move-keys, move-still}
 use Rattle.pass.proofs.setting_row.Statement.{statement}
 use Rattle.pass.proofs.setting_row.Tie as tie
 
@@ -45,16 +45,19 @@ add-to c = omega (arith, ends (c .before .before .before .before .before .before
 add-to-2 : tie.Need-add-to-2
 add-to-2 c = omega (arith, ends (c .before .before .before .before .before .before .before))
 
-sub-offer-row : tie.Need-sub-offer-row
-sub-offer-row c = omega (arith, ends (c .before .before .before .before .before .before .before .before .before))
+sub-give-row : tie.Need-sub-give-row
+sub-give-row c = omega (arith, ends (c .before .before .before .before .before .before .before .before .before))
 
-offer-row-requires : tie.Need-offer-row-requires
-offer-row-requires c κs =
+give-row-requires : tie.Need-give-row-requires
+give-row-requires c κs =
     let t = c .before .before .before .before .before .before .before .before .before in
     let p = t .before .before .before .before .pre in
     let q = t .before .before .part-of .ensures in (
       move-rows _ _ _ _ (p .0) (p .1 .1 .0) (p .1 .1 .1 .0) (p .1 .1 .1 .1 .0) q (p .1 .0) (t .if1 .taken),
-      move-roomy _ _ _ _ (p .0) (p .1 .1 .0) (p .1 .1 .1 .0) (p .1 .1 .1 .1 .0) q (p .1 .0) (t .if1 .taken) (p .1 .1 .1 .1 .1),
+      (
+        move-roomy _ _ _ _ (p .0) (p .1 .1 .0) (p .1 .1 .1 .0) (p .1 .1 .1 .1 .0) q (p .1 .0) (t .if1 .taken) (p .1 .1 .1 .1 .1 .0),
+        (λ v. move-vacant _ _ _ _ (p .0) (p .1 .1 .0) (p .1 .1 .1 .0) (p .1 .1 .1 .1 .0) q (p .1 .0) (t .if1 .taken) (p .1 .1 .1 .1 .1 .1 v)),
+      ),
     )
 
 same-length : tie.Need-same-length
@@ -65,7 +68,7 @@ returns c =
     let t = c .before .before .before .before .before .before .before .before .before .before .before .before in
     let p = t .before .before .before .before .pre in
     let q = t .before .before .part-of .ensures in
-    move-keys _ _ _ _ (p .0) (p .1 .1 .0) (p .1 .1 .1 .0) (p .1 .1 .1 .1 .0) q (p .1 .0) (t .if1 .taken) (c .before .before .offer-row .ensures)
+    move-keys _ _ _ _ (p .0) (p .1 .1 .0) (p .1 .1 .1 .0) (p .1 .1 .1 .1 .0) q (p .1 .0) (t .if1 .taken) (c .before .before .give-row .ensures)
 
 returns-2 : tie.Need-returns-2
 returns-2 c =
@@ -86,8 +89,8 @@ setting-row-spec =
     mul-to
     add-to
     add-to-2
-    sub-offer-row
-    offer-row-requires
+    sub-give-row
+    give-row-requires
     same-length
     returns
     returns-2)

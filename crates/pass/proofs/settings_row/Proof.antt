@@ -1,9 +1,10 @@
 -- `pass::settings_row` meets its contract. The invariant: the row was offered what the first n settings bring. Assumes nothing.
 use borrow.Author.Needs.{needs}
+use borrow.Author.Tests.{eqb-true}
 use native.Mathlib.Omega.{arith}
 use Prim.Native.Nat.{_≤_, _-_, _+_, _*_}
 use Rattle.pass.specs.Pass.{RowKeys, raisedRows}
-use Rattle.pass.proofs.MoveLaws.{moves-none, settings-rows, moves-room, moves-more, moves-all}
+use Rattle.pass.proofs.MoveLaws.{moves-none, settings-rows, moves-room, moves-vacant, moves-more, moves-all}
 use Rattle.pass.proofs.settings_row.Statement.{statement}
 use Rattle.pass.proofs.settings_row.Tie as tie
 
@@ -37,7 +38,10 @@ setting-row-requires c κs =
             p .1 .1 .1 .0,
             (
               p .1 .1 .1 .1 .0 .each _ l,
-              moves-room _ _ _ _ _ _ _ _ (p .0) (p .1 .0) (p .1 .1 .1 .0) r (p .1 .1 .1 .1 .1) l,
+              (
+                moves-room _ _ _ _ _ _ _ _ (p .0) (p .1 .0) (p .1 .1 .1 .0) r (p .1 .1 .1 .1 .1 .0) l,
+                (λ v. let z = eqb-true _ _ v in moves-vacant _ _ _ _ _ _ _ _ (p .0) (p .1 .0) (p .1 .1 .1 .0) r (p .1 .1 .1 .1 .1 .1 (omega arith)) z),
+              ),
             ),
           ),
         ),
