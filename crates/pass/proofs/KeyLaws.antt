@@ -5,6 +5,7 @@ use mathlib.Core.Path.{_≡_, refl, sym, ap, ap₂, _∙_}
 use mathlib.Core.Bool.{Bool, true, false, cond, _&&_, _||_}
 use mathlib.Core.Option.{Option, none, some}
 use mathlib.Core.Logic.{⊎-elim}
+use native.Mathlib.Nat.{add-zero, add-suc}
 use native.Mathlib.Omega.{arith}
 use borrow.Author.Tests.{ne-eqb, lt-ltb, le-ltb}
 use lib.Dec.{ltb, eqb}
@@ -128,6 +129,12 @@ module _ (f : ℕ → Option Key) (digits : ℕ → ℕ) (unit count : ℕ)
   raise-upto (suc n) l =
       ap (λ x. raise x (f n)) (raise-upto n (omega arith))
       ∙ raise-join (digits n) (joinUpto n f) (f n) (upto-below n (digits n) (omega arith) (λ m k. ascending m n k (omega arith))) (from n (omega arith))
+
+-- n settings after the first k
+pub upto-split : (k n : ℕ) (f : ℕ → Option Key) (x : Option Key) → raiseUpto n (λ m. f (k + m)) (raiseUpto k f x) ≡ raiseUpto (k + n) f x
+unfolding raiseUpto
+upto-split k zero f x = ap (λ m. raiseUpto m f x) (sym (add-zero k))
+upto-split k (suc n) f x = ap (λ y. raise y (f (k + n))) (upto-split k n f x) ∙ ap (λ m. raiseUpto m f x) (sym (add-suc k n))
 
 pub upto-same : (n : ℕ) (f g : ℕ → Option Key) (x : Option Key) → ((m : ℕ) → m < n → f m ≡ g m) → raiseUpto n f x ≡ raiseUpto n g x
 unfolding raiseUpto

@@ -23,8 +23,8 @@ use Rattle.pass.specs.declared.Grid.{Grid}
 use Rattle.pass.specs.declared.LoadMoves.{LoadMoves}
 use Rattle.pass.specs.declared.Stretch.{Stretch}
 use Rattle.pass.specs.declared.Made.{Made}
-use Rattle.pass.specs.Pass.{heldIn, held, tried, sourceOf, moveOf, offerOf, raiseUpto, GridFits, LoadRoom, Offers, Spans, RowKeys, Vacant, RowMade, Idle, Reaches, countRows, LayerMade, raisedRows}
-use Rattle.pass.proofs.KeyLaws.{key-empty, shift-from, shift-below, raise-upto, upto-same, upto-none}
+use Rattle.pass.specs.Pass.{heldIn, held, tried, sourceOf, moveOf, offerOf, raiseUpto, GridFits, LoadRoom, Offers, Spans, Opened, RowKeys, RowMade, Idle, Reaches, countRows, LayerMade, raisedRows}
+use Rattle.pass.proofs.KeyLaws.{key-empty, shift-from, shift-below, raise-upto, upto-split, upto-same, upto-none}
 use Rattle.pass.proofs.SourceLaws.{row-end, next-row, held-in, held-low, held-high, source-out, source-column, cond-bounded, Same, offer-same, room-same, rows-same}
 
 -- ---- counts
@@ -122,40 +122,31 @@ module _ {lows highs : List ℕ} (grid : Grid) (row : ℕ) (load : LoadMoves) (s
     pub clear-room : 2 * (next + row * grid .width + span .low + (span .high - span .low)) ≤ length ws
     clear-room = omega (arith, span-ends, rows .target)
 
-    module _ {ws₁ : List ℕ} (f : Filled ws ws₁ (next + row * grid .width + span .low) (span .high - span .low) noCell) where
-      cleared : Same ws ws₁ cur (grid .cells)
-      cleared = record { same = λ x k. f .outside (cur + x) (λ j o e. rows .never x (row * grid .width + span .low + j) k (omega (arith, span-ends)) (omega arith)) }
+    module _ {ws₁ : List ℕ} {first : ℕ} (f : Opened ws ws₁ lows highs grid cur next load row span first) where
+      opened : Same ws ws₁ cur (grid .cells)
+      opened = record { same = λ x k. f .outside (cur + x) (λ col a b e. rows .never x (row * grid .width + col) k (omega (arith, span-ends)) (omega arith)) }
 
-      pub cleared-rows : Rows ws₁ cur next (grid .cells)
-      cleared-rows = rows-same (f .same-length) rows
+      pub opened-rows : Rows ws₁ cur next (grid .cells)
+      opened-rows = rows-same (f .same-length) rows
 
-      pub cleared-room : LoadRoom ws lows highs grid cur load → LoadRoom ws₁ lows highs grid cur load
-      cleared-room = room-same lows highs grid g cleared
+      pub opened-room : LoadRoom ws lows highs grid cur load → LoadRoom ws₁ lows highs grid cur load
+      opened-room = room-same lows highs grid g opened
 
-      pub cleared-vacant : 0 < load .count → Vacant ws₁ lows highs grid next row (moveOf load 0)
-      unfolding noCell
-      cleared-vacant n col k o =
-          let i = q .each 0 n col k o in
-          let j : ℕ = col - span .low in
-          let e : next + row * grid .width + col ≡ next + row * grid .width + span .low + j = omega arith in
-          ap (λ x. keyOf (cellAt ws₁ x)) e ∙ ap keyOf (f .inside j (omega arith)) ∙ key-empty
-
-      module _ {ws₂ : List ℕ} (r : RowKeys ws₁ ws₂ (next + row * grid .width) (grid .width) (raisedRows ws₁ lows highs grid cur next load row (load .count))) where
+      module _ {ws₂ : List ℕ} (r : RowKeys ws₁ ws₂ (next + row * grid .width) (grid .width) (raisedRows ws₁ lows highs grid cur next load row first (load .count - first))) where
         pub count-room : 2 * (next + row * grid .width + span .low + (span .high - span .low)) ≤ length ws₂
         count-room = omega (arith, clear-room, f .same-length, r .same-length)
 
         inside-span : LoadRoom ws lows highs grid cur load → (col : ℕ) → col < grid .width → span .low ≤ col → col < span .high
             → keyOf (cellAt ws₂ (next + row * grid .width + col)) ≡ joinUpto (load .count) (offerOf ws lows highs grid cur load row col)
-        unfolding raisedRows noCell
+        unfolding raisedRows
         inside-span room col k a b =
-            let j : ℕ = col - span .low in
-            let e : next + row * grid .width + col ≡ next + row * grid .width + span .low + j = omega arith in
-            let i : j < span .high - span .low = omega arith in
-            let c = f .inside j i in
+            let left : first + (load .count - first) ≡ load .count = omega (arith, f .few) in
             r .inside col k
-            ∙ ap (raiseUpto (load .count) (offerOf ws₁ lows highs grid cur load row col)) (ap (λ x. keyOf (cellAt ws₁ x)) e ∙ ap keyOf c ∙ key-empty)
-            ∙ upto-same (load .count) (offerOf ws₁ lows highs grid cur load row col) (offerOf ws lows highs grid cur load row col) none
-            (λ m o. offer-same lows highs grid g cleared load row col m l)
+            ∙ upto-same (load .count - first) (λ m. offerOf ws₁ lows highs grid cur load row col (first + m)) (λ m. offerOf ws lows highs grid cur load row col (first + m))
+            (keyOf (cellAt ws₁ (next + row * grid .width + col))) (λ m o. offer-same lows highs grid g opened load row col (first + m) l)
+            ∙ ap (raiseUpto (load .count - first) (λ m. offerOf ws lows highs grid cur load row col (first + m))) (f .inside col a b)
+            ∙ upto-split first (load .count - first) (offerOf ws lows highs grid cur load row col) none
+            ∙ ap (λ n. raiseUpto n (offerOf ws lows highs grid cur load row col) none) left
             ∙ raise-offers grid cur load room row col l
 
         pub row-made : {n : ℕ} {asked : Bool} → LoadRoom ws lows highs grid cur load
@@ -172,7 +163,7 @@ module _ {lows highs : List ℕ} (grid : Grid) (row : ℕ) (load : LoadMoves) (s
               (λ (b : span .high ≤ col). held-high ws₂ at (span .low) (span .high) col b ∙ sym (beside-span ws cur col k (λ x y. omega arith)))
               (split col (span .high)))
               (split col (span .low));
-          outside = λ x o. r .outside x o ∙ f .outside x (λ j k e. o (span .low + j) (omega (arith, span-ends)) (omega arith));
+          outside = λ x o. r .outside x o ∙ f .outside x (λ col a b e. o col (omega (arith, span-ends)) e);
           counted = λ t. counted t
               ∙ count-same (span .high - span .low) (reached ws₂ (at + span .low)) (λ j. isSome (heldIn ws₂ at (span .low) (span .high) (span .low + j))) same
               ∙ sym (count-part (span .low) (span .high) (grid .width) (λ col. isSome (heldIn ws₂ at (span .low) (span .high) col)) (omega arith) (q .end .1)

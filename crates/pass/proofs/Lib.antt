@@ -3,4 +3,5 @@ pub mod ReachLaws
 pub mod KeyLaws
 pub mod SourceLaws
 pub mod MoveLaws
+pub mod OpenLaws
 pub mod LayerLaws

@@ -5,58 +5,25 @@ use mathlib.Core.Path.{_≡_, refl, sym, ap, ap₂, _∙_, subst}
 use mathlib.Core.List.{List}
 use mathlib.Core.Option.{Option, none, some}
 use mathlib.Core.Logic.{⊎-elim}
-use native.Mathlib.Nat.{le-antisymm, add-zero}
+use native.Mathlib.Nat.{le-antisymm}
 use native.Mathlib.Numerals.{add-one}
 use native.Mathlib.Omega.{arith}
 use lib.ListN.{getD}
 use Rattle.model.proofs.OrderLaws.{Key, shift?}
 use Rattle.model.proofs.RowLaws.{Bounded}
-use Rattle.table.specs.Table.{cellAt, keyOf, offeredRow, copiedRow, Filled, Roomy, Rows}
+use Rattle.table.specs.Table.{cellAt, keyOf, offered, offeredRow, Filled, Roomy, Rows}
 use Rattle.model.proofs.IntegerLaws.{split}
 use Rattle.pass.specs.declared.SettingMove.{SettingMove}
 use Rattle.pass.specs.declared.Grid.{Grid}
 use Rattle.pass.specs.declared.LoadMoves.{LoadMoves}
 use Rattle.pass.specs.declared.Stretch.{Stretch}
-use Rattle.pass.specs.Pass.{held, sourceOf, moveOf, offerOf, raise, raiseUpto, GridFits, StretchesFit, MoveFits, MoveRoom, LoadRoom, Offers, Part, RowKeys, Vacant, raisedPart, raisedRow, raisedRows}
+use Rattle.pass.specs.Pass.{held, sourceOf, moveOf, offerOf, raise, raiseUpto, GridFits, StretchesFit, MoveFits, MoveRoom, LoadRoom, Offers, Part, Ends, Opened, RowKeys, raisedRow, raisedRows}
 use Rattle.pass.proofs.KeyLaws.{key-offered, bounded-room}
 use Rattle.pass.proofs.SourceLaws.{row-end, held-in, source-in, source-out, Same, source-same, room-same, move-room, keys-same, rows-same}
-
--- where a setting's pass over a row begins and ends
-pub record Ends (grid : Grid) (row : ℕ) (mv : SettingMove) (part : Stretch) : Type 0 where
-  pub back-in : mv .back ≤ row
-  pub shift-in : mv .up ≤ part .low + mv .down
-  pub source-in : part .low + mv .down - mv .up + (part .high - part .low) ≤ grid .width
-  pub target-in : part .high ≤ grid .width
-  pub source-end : (row - mv .back) * grid .width + grid .width ≤ grid .cells
-  pub target-end : row * grid .width + grid .width ≤ grid .cells
 
 raise-none : (x : Option Key) → raise x none ≡ x
 raise-none none = refl
 raise-none (some x) = refl
-
--- cells that were offered what a setting brings, and cells copied by a setting that adds nothing to where nothing was held
-pub part-offered : {ws ws′ : List ℕ} {to len : ℕ} (from gain digit : ℕ) → Filled ws ws′ to len (offeredRow ws from to gain digit)
-    → RowKeys ws ws′ to len (raisedPart ws from to gain digit)
-unfolding raisedPart offeredRow
-part-offered {ws} {ws′} {to} from gain digit r = record {
-  same-length = r .same-length;
-  inside = λ j k. ap keyOf (r .inside j k) ∙ key-offered (cellAt ws (to + j)) (cellAt ws (from + j)) gain digit;
-  outside = r .outside;
-}
-
-shift-zero : (x : Option Key) → shift? 0 0 x ≡ x
-shift-zero none = refl
-shift-zero (some x) = ap some (λ i. record { worth = add-zero (x .worth) i; code = add-zero (x .code) i })
-
-pub part-copied : {ws ws′ : List ℕ} {to len : ℕ} (from gain digit : ℕ) → gain ≡ 0 → digit ≡ 0 → ((j : ℕ) → j < len → keyOf (cellAt ws (to + j)) ≡ none)
-    → Filled ws ws′ to len (copiedRow ws from) → RowKeys ws ws′ to len (raisedPart ws from to gain digit)
-unfolding raisedPart copiedRow
-part-copied {ws} {ws′} {to} from gain digit g d v r = record {
-  same-length = r .same-length;
-  inside = λ j k. ap keyOf (r .inside j k)
-      ∙ sym (ap₂ (λ x y. raise x y) (v j k) (ap₂ (λ m n. shift? m n (keyOf (cellAt ws (from + j)))) g d ∙ shift-zero (keyOf (cellAt ws (from + j)))));
-  outside = r .outside;
-}
 
 module _ {lows highs : List ℕ} (grid : Grid) (row : ℕ) (mv : SettingMove) (part : Stretch) (g : GridFits grid) (s : StretchesFit lows highs grid)
     (l : row < grid .rows) (fit : MoveFits grid mv) (p : Part lows highs grid row mv part) where
@@ -105,16 +72,10 @@ module _ {lows highs : List ℕ} (grid : Grid) (row : ℕ) (mv : SettingMove) (p
         rw a (bounded-room (cellAt ws (cur + (row - mv .back) * grid .width + c)) (r .top) (r .unit) (mv .gain) (mv .digit)
         (subst (Bounded (r .top) (r .unit)) x (r .small (row - mv .back) c i w)) (r .gain-fits) (r .digit-fits))
 
-    pub move-vacant : Vacant ws lows highs grid next row mv → (j : ℕ) → j < part .high - part .low
-        → keyOf (cellAt ws (next + row * grid .width + part .low + j)) ≡ none
-    move-vacant v j k =
-        let e : next + row * grid .width + part .low + j ≡ next + row * grid .width + (part .low + j) = omega arith in
-        ap (λ x. keyOf (cellAt ws x)) e ∙ v (part .low + j) (omega (arith, p .end)) (p .only (part .low + j) (omega arith) (omega arith))
-
-    pub move-keys : {ws′ : List ℕ} → RowKeys ws ws′ (next + row * grid .width + part .low) (part .high - part .low)
-        (raisedPart ws (cur + (row - mv .back) * grid .width + (part .low + mv .down - mv .up)) (next + row * grid .width + part .low) (mv .gain) (mv .digit))
+    pub move-keys : {ws′ : List ℕ} → Filled ws ws′ (next + row * grid .width + part .low) (part .high - part .low)
+        (offeredRow ws (cur + (row - mv .back) * grid .width + (part .low + mv .down - mv .up)) (next + row * grid .width + part .low) (mv .gain) (mv .digit))
         → RowKeys ws ws′ (next + row * grid .width) (grid .width) (raisedRow ws lows highs grid cur next mv row)
-    unfolding raisedRow raisedPart
+    unfolding raisedRow offeredRow
     move-keys {ws′} r = record {
       same-length = r .same-length;
       inside = λ col k. ⊎-elim
@@ -144,8 +105,11 @@ module _ {lows highs : List ℕ} (grid : Grid) (row : ℕ) (mv : SettingMove) (p
             let o = p .only col a b in
             let t : next + row * grid .width + part .low + j ≡ next + row * grid .width + col = omega arith in
             let f : cur + (row - mv .back) * grid .width + (part .low + mv .down - mv .up) + j ≡ cur + (row - mv .back) * grid .width + (col + mv .down - mv .up) = omega arith in
+            let i : cellAt ws′ (next + row * grid .width + part .low + j)
+            ≡ offered (cellAt ws (next + row * grid .width + part .low + j)) (cellAt ws (cur + (row - mv .back) * grid .width + (part .low + mv .down - mv .up) + j)) (mv .gain) (mv .digit) = r .inside j k in
             ap (λ x. keyOf (cellAt ws′ x)) (sym t)
-            ∙ r .inside j k
+            ∙ ap keyOf i
+            ∙ key-offered (cellAt ws (next + row * grid .width + part .low + j)) (cellAt ws (cur + (row - mv .back) * grid .width + (part .low + mv .down - mv .up) + j)) (mv .gain) (mv .digit)
             ∙ ap₂ (λ x y. raise (keyOf (cellAt ws x)) (shift? (mv .gain) (mv .digit) y)) t
             (ap (λ x. keyOf (cellAt ws x)) f ∙ sym (source-in ws lows highs grid cur mv row col s l o))
 
@@ -160,40 +124,33 @@ module _ {lows highs : List ℕ} (grid : Grid) (row : ℕ) (mv : SettingMove) (p
   }
 
 -- the settings one after the other: none yet, one more, all
-module _ (lows highs : List ℕ) (grid : Grid) (cur next row : ℕ) (load : LoadMoves) where
-  pub moves-none : {ws : List ℕ} → RowKeys ws ws (next + row * grid .width) (grid .width) (raisedRows ws lows highs grid cur next load row 0)
+module _ (lows highs : List ℕ) (grid : Grid) (cur next row : ℕ) (load : LoadMoves) (first : ℕ) where
+  pub moves-none : {ws : List ℕ} → RowKeys ws ws (next + row * grid .width) (grid .width) (raisedRows ws lows highs grid cur next load row first 0)
   unfolding raisedRows raiseUpto
   moves-none = record { same-length = refl; inside = λ col k. refl; outside = λ x n. refl }
 
   module _ {ws ws′ : List ℕ} (n : ℕ) (g : GridFits grid) (rows : Rows ws cur next (grid .cells)) (l : row < grid .rows)
-      (r : RowKeys ws ws′ (next + row * grid .width) (grid .width) (raisedRows ws lows highs grid cur next load row n)) where
+      (r : RowKeys ws ws′ (next + row * grid .width) (grid .width) (raisedRows ws lows highs grid cur next load row first n)) where
     kept : Same ws ws′ cur (grid .cells)
     kept = keys-same grid row g rows l r
 
     pub settings-rows : Rows ws′ cur next (grid .cells)
     settings-rows = rows-same (r .same-length) rows
 
-    pub moves-room : LoadRoom ws lows highs grid cur load → n < load .count → MoveRoom ws′ lows highs grid cur (moveOf load n .gain) (moveOf load n .digit)
-    moves-room q k = move-room n k (room-same lows highs grid g kept q)
+    pub moves-room : LoadRoom ws lows highs grid cur load → first + n < load .count → MoveRoom ws′ lows highs grid cur (moveOf load (first + n) .gain) (moveOf load (first + n) .digit)
+    moves-room q k = move-room (first + n) k (room-same lows highs grid g kept q)
 
-    -- before the first setting nothing has changed
-    pub moves-vacant : Vacant ws lows highs grid next row (moveOf load 0) → n ≡ 0 → Vacant ws′ lows highs grid next row (moveOf load n)
-    unfolding raisedRows raiseUpto
-    moves-vacant v e =
-        let q = subst (λ (m : ℕ). RowKeys ws ws′ (next + row * grid .width) (grid .width) (raisedRows ws lows highs grid cur next load row m)) e r in
-        subst (λ (m : ℕ). Vacant ws′ lows highs grid next row (moveOf load m)) (sym e) (λ col k o. q .inside col k ∙ v col k o)
-
-    pub moves-more : {ws″ : List ℕ} → RowKeys ws′ ws″ (next + row * grid .width) (grid .width) (raisedRow ws′ lows highs grid cur next (moveOf load n) row)
-        → RowKeys ws ws″ (next + row * grid .width) (grid .width) (raisedRows ws lows highs grid cur next load row (n + 1))
+    pub moves-more : {ws″ : List ℕ} → RowKeys ws′ ws″ (next + row * grid .width) (grid .width) (raisedRow ws′ lows highs grid cur next (moveOf load (first + n)) row)
+        → RowKeys ws ws″ (next + row * grid .width) (grid .width) (raisedRows ws lows highs grid cur next load row first (n + 1))
     unfolding raisedRow raisedRows raiseUpto offerOf
     moves-more {ws″} q = rw (add-one n) (record {
       same-length = q .same-length ∙ r .same-length;
       inside = λ col k. q .inside col k
-          ∙ ap₂ (λ x y. raise x (shift? (moveOf load n .gain) (moveOf load n .digit) y)) (r .inside col k) (source-same lows highs grid g kept (moveOf load n) row col l);
+          ∙ ap₂ (λ x y. raise x (shift? (moveOf load (first + n) .gain) (moveOf load (first + n) .digit) y)) (r .inside col k) (source-same lows highs grid g kept (moveOf load (first + n)) row col l);
       outside = λ x o. q .outside x o ∙ r .outside x o;
     })
 
-  pub moves-all : {ws ws′ : List ℕ} (n : ℕ) → n ≤ load .count → load .count ≤ n
-      → RowKeys ws ws′ (next + row * grid .width) (grid .width) (raisedRows ws lows highs grid cur next load row n)
-      → RowKeys ws ws′ (next + row * grid .width) (grid .width) (raisedRows ws lows highs grid cur next load row (load .count))
-  moves-all n h k r = rw (le-antisymm h k) at r
+  pub moves-all : {ws ws′ : List ℕ} (n count : ℕ) → n ≤ count → count ≤ n
+      → RowKeys ws ws′ (next + row * grid .width) (grid .width) (raisedRows ws lows highs grid cur next load row first n)
+      → RowKeys ws ws′ (next + row * grid .width) (grid .width) (raisedRows ws lows highs grid cur next load row first count)
+  moves-all n count h k r = rw (le-antisymm h k) at r

@@ -149,11 +149,28 @@ pub record Spans (lows highs : List ℕ) (grid : Grid) (row : ℕ) (load : LoadM
   pub end : (r .low ≤ grid .width) × (r .high ≤ grid .width)
   pub each : (m : ℕ) → m < n → (col : ℕ) → col < grid .width → Offers lows highs grid row (moveOf load m) col → (r .low ≤ col) × (col < r .high)
 
+-- where a setting's pass over its part of a row begins and ends
+pub record Ends (grid : Grid) (row : ℕ) (mv : SettingMove) (part : Stretch) : Type 0 where
+  pub back-in : mv .back ≤ row
+  pub shift-in : mv .up ≤ part .low + mv .down
+  pub source-in : part .low + mv .down - mv .up + (part .high - part .low) ≤ grid .width
+  pub target-in : part .high ≤ grid .width
+  pub source-end : (row - mv .back) * grid .width + grid .width ≤ grid .cells
+  pub target-end : row * grid .width + grid .width ≤ grid .cells
+
 -- the words ws′ are ws with the cells of one row, at `at`, holding f 0, f 1, .., and every cell outside the row as it was
 pub record RowKeys (ws ws′ : List ℕ) (at width : ℕ) (f : ℕ → Option Key) : Type 0 where
   pub same-length : length ws′ ≡ length ws
   pub inside : (col : ℕ) → col < width → keyOf (cellAt ws′ (at + col)) ≡ f col
   pub outside : (x : ℕ) → ((col : ℕ) → col < width → x ≡ at + col → ⊥) → cellAt ws′ x ≡ cellAt ws x
+
+-- the words ws′ are ws with a stretch of a row of the next layer holding what the first r settings offer, and every cell outside as it was
+pub record Opened (ws ws′ lows highs : List ℕ) (grid : Grid) (cur next : ℕ) (load : LoadMoves) (row : ℕ) (s : Stretch) (r : ℕ) : Type 0 where
+  pub same-length : length ws′ ≡ length ws
+  pub few : r ≤ load .count
+  pub inside : (col : ℕ) → s .low ≤ col → col < s .high → keyOf (cellAt ws′ (next + row * grid .width + col))
+      ≡ raiseUpto r (offerOf ws lows highs grid cur load row col) none
+  pub outside : (x : ℕ) → ((col : ℕ) → s .low ≤ col → col < s .high → x ≡ next + row * grid .width + col → ⊥) → cellAt ws′ x ≡ cellAt ws x
 
 -- a row of the next layer made from the current one: its stretch, what it holds, and how many cells it holds where that was asked for
 pub record RowMade (ws ws′ lows highs : List ℕ) (grid : Grid) (cur next : ℕ) (load : LoadMoves) (row : ℕ) (asked : Bool) (r : Made) : Type 0 where
@@ -193,22 +210,13 @@ pub record LayerMade (ws ws′ lows highs lows′ highs′ : List ℕ) (grid : G
       ≡ joinUpto (load .count) (offerOf ws lows highs grid cur load row col)
   pub outside : (x : ℕ) → ((y : ℕ) → y < n * grid .width → x ≡ next + y → ⊥) → cellAt ws′ x ≡ cellAt ws x
 
--- nothing is held where a setting offers something
-abbrev pub Vacant : List ℕ → List ℕ → List ℕ → Grid → ℕ → ℕ → SettingMove → Type 0
-Vacant ws lows highs grid next row mv =
-    (col : ℕ) → col < grid .width → Offers lows highs grid row mv col → keyOf (cellAt ws (next + row * grid .width + col)) ≡ none
-
--- cells from `to` on after a setting offers them the cells from `from` on
-unfoldable pub raisedPart : List ℕ → ℕ → ℕ → ℕ → ℕ → ℕ → Option Key
-raisedPart ws from to gain digit j = raise (keyOf (cellAt ws (to + j))) (shift? gain digit (keyOf (cellAt ws (from + j))))
-
--- a row of the next layer after a setting, and after the first n settings
+-- a row of the next layer after a setting, and after n settings from `first` on
 unfoldable pub raisedRow : List ℕ → List ℕ → List ℕ → Grid → ℕ → ℕ → SettingMove → ℕ → ℕ → Option Key
 unfolding sourceOf
 raisedRow ws lows highs grid cur next mv row col =
     raise (keyOf (cellAt ws (next + row * grid .width + col))) (shift? (mv .gain) (mv .digit) (sourceOf ws lows highs grid cur mv row col))
 
-unfoldable pub raisedRows : List ℕ → List ℕ → List ℕ → Grid → ℕ → ℕ → LoadMoves → ℕ → ℕ → ℕ → Option Key
+unfoldable pub raisedRows : List ℕ → List ℕ → List ℕ → Grid → ℕ → ℕ → LoadMoves → ℕ → ℕ → ℕ → ℕ → Option Key
 unfolding offerOf raiseUpto
-raisedRows ws lows highs grid cur next load row n col =
-    raiseUpto n (offerOf ws lows highs grid cur load row col) (keyOf (cellAt ws (next + row * grid .width + col)))
+raisedRows ws lows highs grid cur next load row first n col =
+    raiseUpto n (λ m. offerOf ws lows highs grid cur load row col (first + m)) (keyOf (cellAt ws (next + row * grid .width + col)))

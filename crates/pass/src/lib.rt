@@ -3,11 +3,10 @@
 // counts.
 ghost use mathlib.Core.Path.{_≡_};
 ghost use mathlib.Core.Bool.{true};
-ghost use Prim.Native.Nat.{ℕ, _+_, _-_, _*_, _<_, _≤_};
+ghost use Prim.Native.Nat.{ℕ, _+_, _-_, _*_, _^_, _<_, _≤_};
 ghost use lib.ListN.{length, getD};
-ghost use mathlib.Core.Option.{none};
-ghost use Rattle.table.specs.Table.{Rows, Roomy, cellAt, keyOf};
-ghost use Rattle.pass.specs.Pass.{coversFrom, GridFits, StretchesFit, MoveFits, MoveRoom, LoadFits, LoadRoom, Clipped, Part, Joined, Spans, RowKeys, Vacant, raisedPart, moveOf, RowMade, Idle, Reaches, LayerMade, raisedRow, raisedRows, held, countRows};
+ghost use Rattle.table.specs.Table.{Rows};
+ghost use Rattle.pass.specs.Pass.{coversFrom, GridFits, StretchesFit, MoveFits, MoveRoom, LoadFits, LoadRoom, Clipped, Part, Joined, Spans, Ends, RowKeys, Opened, moveOf, RowMade, Idle, Reaches, LayerMade, raisedRow, raisedRows, held, countRows};
 
 // What a setting does to a cell: the worth it adds, its digit in the code, how many rows back its source row is, how far the columns
 // move up and down, and its active coordinates.
@@ -189,33 +188,16 @@ pub fn span_of(
     s
 }
 
-// Offers `len` cells what a setting brings from as many others. Where nothing is held there yet, a setting that adds nothing is copied.
-fn give_row(
-    work: &mut [u64],
-    from: usize,
-    to: usize,
-    len: usize,
-    gain: u64,
-    digit: u64,
-    vacant: bool,
-)
-    requires { ⌜ Rows (now work) from to len ⌝ }
-    requires { ⌜ Roomy (now work) from len gain digit ⌝ }
-    requires { ⌜ (vacant ≡ true → (j : ℕ) → j < len → keyOf (cellAt (now work) (to + j)) ≡ none) ⌝ }
-    ensures { λ _. ⌜ RowKeys (now (work .entry)) (now (work .exit)) to len (raisedPart (now (work .entry)) from to gain digit) ⌝ }
+// The cell of the current layer from which a setting comes to the first column of its part of a row.
+fn source_cell(grid: Grid, cur: usize, row: usize, mv: SettingMove, part: Stretch) -> usize
+    requires { ⌜ Ends grid row mv part ⌝ }
+    requires { ⌜ (2 * (cur + grid .cells) < 2 ^ 64) × (mv .up ≤ 1099511627776) ⌝ }
+    ensures { λ r. ⌜ r ≡ cur + (row - mv .back) * grid .width + (part .low + mv .down - mv .up) ⌝ }
 {
-    if vacant {
-        if gain == 0 {
-            if digit == 0 {
-                table::copy_row(work, from, to, len);
-                return;
-            }
-        }
-    }
-    table::offer_row(work, from, to, len, gain, digit);
+    cur + (row - mv.back) * grid.width + (part.low + mv.down - mv.up)
 }
 
-// Offers one row of the next layer what a setting brings there; `vacant` says that nothing is held there yet.
+// Offers one row of the next layer what a setting brings there.
 pub fn setting_row(
     work: &mut [u64],
     grid: Grid,
@@ -225,7 +207,6 @@ pub fn setting_row(
     highs: &[usize; 724],
     row: usize,
     mv: SettingMove,
-    vacant: bool,
 )
     requires { ⌜ GridFits grid ⌝ }
     requires { ⌜ Rows (now work) cur next (grid .cells) ⌝ }
@@ -233,26 +214,17 @@ pub fn setting_row(
     requires { ⌜ row < grid .rows ⌝ }
     requires { ⌜ MoveFits grid mv ⌝ }
     requires { ⌜ MoveRoom (now work) (now lows) (now highs) grid cur (mv .gain) (mv .digit) ⌝ }
-    requires { ⌜ (vacant ≡ true → Vacant (now work) (now lows) (now highs) grid next row mv) ⌝ }
     ensures { λ _. ⌜ RowKeys (now (work .entry)) (now (work .exit)) (next + row * grid .width) (grid .width) (raisedRow (now (work .entry)) (now (lows .entry)) (now (highs .entry)) grid cur next mv row) ⌝ }
 {
     let part = part_of(grid, lows, highs, row, mv);
     if part.low < part.high {
-        let from = cur + (row - mv.back) * grid.width + (part.low + mv.down - mv.up);
+        let from = source_cell(grid, cur, row, mv, part);
         let to = next + row * grid.width + part.low;
-        give_row(
-            work,
-            from,
-            to,
-            part.high - part.low,
-            mv.gain,
-            mv.digit,
-            vacant,
-        );
+        table::offer_row(work, from, to, part.high - part.low, mv.gain, mv.digit);
     }
 }
 
-// Offers one row of the next layer what each setting brings there, in turn. Nothing is held yet where the first offers something.
+// Offers one row of the next layer what each setting from `first` on brings there, in turn.
 pub fn settings_row(
     work: &mut [u64],
     grid: Grid,
@@ -262,6 +234,7 @@ pub fn settings_row(
     highs: &[usize; 724],
     row: usize,
     load: LoadMoves,
+    first: usize,
 )
     requires { ⌜ GridFits grid ⌝ }
     requires { ⌜ Rows (now work) cur next (grid .cells) ⌝ }
@@ -269,16 +242,67 @@ pub fn settings_row(
     requires { ⌜ row < grid .rows ⌝ }
     requires { ⌜ LoadFits grid load ⌝ }
     requires { ⌜ LoadRoom (now work) (now lows) (now highs) grid cur load ⌝ }
-    requires { ⌜ (0 < load .count → Vacant (now work) (now lows) (now highs) grid next row (moveOf load 0)) ⌝ }
-    ensures { λ _. ⌜ RowKeys (now (work .entry)) (now (work .exit)) (next + row * grid .width) (grid .width) (raisedRows (now (work .entry)) (now (lows .entry)) (now (highs .entry)) grid cur next load row (load .count)) ⌝ }
+    requires { ⌜ first ≤ load .count ⌝ }
+    ensures { λ _. ⌜ RowKeys (now (work .entry)) (now (work .exit)) (next + row * grid .width) (grid .width) (raisedRows (now (work .entry)) (now (lows .entry)) (now (highs .entry)) grid cur next load row first (load .count - first)) ⌝ }
 {
-    let count = load.count;
+    let left = load.count - first;
     let mut n: usize = 0;
-    while n < count {
-        let mv = load.moves[n];
-        setting_row(work, grid, cur, next, lows, highs, row, mv, n == 0);
+    while n < left {
+        let m = first + n;
+        let mv = load.moves[m];
+        setting_row(work, grid, cur, next, lows, highs, row, mv);
         n += 1;
     }
+}
+
+// Whether the first setting of a load adds nothing, as standing does.
+fn adds_nothing(load: LoadMoves) -> bool
+    ensures { λ r. ⌜ (r ≡ true → (0 < load .count) × (moveOf load 0 .gain ≡ 0) × (moveOf load 0 .digit ≡ 0)) ⌝ }
+{
+    let mv = load.moves[0];
+    if 0 < load.count {
+        if mv.gain == 0 {
+            return mv.digit == 0;
+        }
+    }
+    false
+}
+
+// Empties the stretch of a row, whose cells begin at `at`. What a first setting that adds nothing brings there is copied at once; gives the
+// number of settings that have been offered, 0 or 1.
+fn open_row(
+    work: &mut [u64],
+    grid: Grid,
+    cur: usize,
+    next: usize,
+    lows: &[usize; 724],
+    highs: &[usize; 724],
+    row: usize,
+    load: LoadMoves,
+    s: Stretch,
+    at: usize,
+) -> usize
+    requires { ⌜ GridFits grid ⌝ }
+    requires { ⌜ Rows (now work) cur next (grid .cells) ⌝ }
+    requires { ⌜ StretchesFit (now lows) (now highs) grid ⌝ }
+    requires { ⌜ row < grid .rows ⌝ }
+    requires { ⌜ LoadFits grid load ⌝ }
+    requires { ⌜ Spans (now lows) (now highs) grid row load (load .count) s ⌝ }
+    requires { ⌜ (s .low < s .high) × (at ≡ next + row * grid .width + s .low) ⌝ }
+    ensures { λ r. ⌜ Opened (now (work .entry)) (now (work .exit)) (now (lows .entry)) (now (highs .entry)) grid cur next load row s r ⌝ }
+{
+    let len = s.high - s.low;
+    if adds_nothing(load) {
+        let mv = load.moves[0];
+        let part = part_of(grid, lows, highs, row, mv);
+        if part.low < part.high {
+            let from = source_cell(grid, cur, row, mv, part);
+            table::carry_row(work, from, at, part.low - s.low, part.high - part.low, len);
+            return 1;
+        }
+    }
+    table::clear(work, at, len);
+    0
 }
 
 // Makes one row of the next layer, and counts its reached cells where that is asked for.
@@ -305,8 +329,8 @@ pub fn load_row(
     if s.low < s.high {
         let at = next + row * grid.width + s.low;
         let len = s.high - s.low;
-        table::clear(work, at, len);
-        settings_row(work, grid, cur, next, lows, highs, row, load);
+        let first = open_row(work, grid, cur, next, lows, highs, row, load, s, at);
+        settings_row(work, grid, cur, next, lows, highs, row, load, first);
         let count = table::count_if(work, at, len, asked);
         return Made {
             low: s.low,

@@ -1,6 +1,6 @@
 -- What each branch of `Cell::offer` returns, a cell read after a store, a row that is filled cell by cell, and a count of cells.
 -- Assumes nothing.
-use Prim.Native.Nat.{ℕ, zero, suc, _+_, _*_, _<_, _≤_}
+use Prim.Native.Nat.{ℕ, zero, suc, _+_, _-_, _*_, _<_, _≤_}
 use mathlib.Core.Path.{_≡_, refl, sym, ap, ap₂, _∙_}
 use mathlib.Core.List.{List, [], _∷_}
 use mathlib.Core.Bool.{Bool, cond}
@@ -9,12 +9,14 @@ use lib.Dec.{ltb}
 use native.Mathlib.Omega.{arith}
 use lib.ListN.{length, getD, set, length-set}
 use lib.Seq.{getD-set-same, getD-set-other}
-use borrow.Author.Tests.{eq-eqb, ne-eqb, lt-ltb, le-ltb}
+use borrow.Author.Tests.{eq-eqb, ne-eqb, lt-ltb, le-ltb, le-leb, lt-leb}
+use mathlib.Core.Logic.{⊎-elim}
+use Rattle.model.proofs.IntegerLaws.{split}
 use Rattle.table.specs.declared.Cell.{Cell}
 use borrow.Author.Count.{below-more}
 use native.Mathlib.Nat.{not-suc-le-zero, le-antisymm}
 use Rattle.model.proofs.CellLaws.{isSome, countUpto}
-use Rattle.table.specs.Table.{cellAt, putAt, keyIf, keyOf, raised, offered, offeredAt, Room, Rows, Roomy, Filled, offeredRow, copiedRow, reached}
+use Rattle.table.specs.Table.{cellAt, putAt, keyIf, keyOf, raised, offered, offeredAt, Room, Rows, Roomy, Filled, offeredRow, copiedRow, carriedRow, noCell, empty, reached}
 
 module _ (old src : Cell) (gain digit : ℕ) where
   pub offered-empty : src .worth ≡ 0 → old ≡ offered old src gain digit
@@ -113,6 +115,43 @@ pub copied-more : {ws ws′ ws″ : List ℕ} {from to len j : ℕ} {c : Cell} �
 unfolding copiedRow
 copied-more {ws′ = ws′} {to = to} {j = j} rows l r c e =
     filled-more r (omega (arith, rows .target)) (e ∙ ap (putAt ws′ (to + j)) (c ∙ source-kept rows l r))
+
+-- a row that is copied between cells that are emptied
+module _ {ws ws₁ ws₂ ws₃ : List ℕ} (from to skip count len : ℕ) (h : skip + count ≤ len)
+    (a : Filled ws ws₁ (to + skip) count (copiedRow ws from)) (b : Filled ws₁ ws₂ to skip noCell)
+    (c : Filled ws₂ ws₃ (to + skip + count) (len - (skip + count)) noCell) where
+  before : (j : ℕ) → j < skip → cellAt ws₃ (to + j) ≡ carriedRow ws from skip count j
+  unfolding carriedRow noCell empty
+  before j k = c .outside (to + j) (λ i m e. omega arith) ∙ b .inside j k ∙ sym (simp (lt-leb _ _ k))
+
+  between : (j : ℕ) → skip ≤ j → j < skip + count → cellAt ws₃ (to + j) ≡ carriedRow ws from skip count j
+  unfolding carriedRow copiedRow empty
+  between j k l =
+      let e : to + j ≡ to + skip + (j - skip) = omega arith in
+      c .outside (to + j) (λ i m q. omega arith)
+      ∙ b .outside (to + j) (λ i m q. omega arith)
+      ∙ ap (cellAt ws₁) e
+      ∙ a .inside (j - skip) (omega arith)
+      ∙ sym (simp (le-leb _ _ k, lt-ltb _ _ l))
+
+  after : (j : ℕ) → j < len → skip + count ≤ j → cellAt ws₃ (to + j) ≡ carriedRow ws from skip count j
+  unfolding carriedRow noCell empty
+  after j k l =
+      let e : to + j ≡ to + skip + count + (j - (skip + count)) = omega arith in
+      let m : skip ≤ j = omega arith in
+      ap (cellAt ws₃) e ∙ c .inside (j - (skip + count)) (omega arith) ∙ sym (simp (le-leb _ _ m, le-ltb _ _ l))
+
+  pub carried : Filled ws ws₃ to len (carriedRow ws from skip count)
+  carried = record {
+    same-length = c .same-length ∙ b .same-length ∙ a .same-length;
+    inside = λ j k. ⊎-elim
+        (λ (l : j < skip). before j l)
+        (λ (l : skip ≤ j). ⊎-elim (λ (m : j < skip + count). between j l m) (λ (m : skip + count ≤ j). after j k m) (split j (skip + count)))
+        (split j skip);
+    outside = λ x n. c .outside x (λ i m e. n (skip + count + i) (omega arith) (omega arith))
+        ∙ b .outside x (λ i m e. n i (omega arith) (omega arith))
+        ∙ a .outside x (λ i m e. n (skip + i) (omega arith) (omega arith));
+  }
 
 -- one cell more of `count_row`
 reached-worth : (c : Cell) → ltb 0 (c .worth) ≡ isSome (keyOf c)

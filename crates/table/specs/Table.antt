@@ -1,11 +1,11 @@
 -- Cells in a list of words, two words a cell: what a cell holds, and what it becomes when it is offered a choice.
-use Prim.Native.Nat.{ℕ, zero, suc, _+_, _*_, _<_, _≤_, _^_}
+use Prim.Native.Nat.{ℕ, zero, suc, _+_, _-_, _*_, _<_, _≤_, _^_}
 use mathlib.Core.Path.{_≡_}
-use mathlib.Core.Bool.{Bool, cond}
+use mathlib.Core.Bool.{Bool, cond, _&&_}
 use mathlib.Core.List.{List}
 use mathlib.Core.Option.{Option, none, some}
 use lib.ListN.{getD, set, length}
-use lib.Dec.{ltb, eqb}
+use lib.Dec.{leb, ltb, eqb}
 use Rattle.model.proofs.OrderLaws.{Key}
 use Rattle.model.proofs.CellLaws.{isSome}
 use Rattle.table.specs.declared.Cell.{Cell}
@@ -72,6 +72,11 @@ copiedRow ws from j = cellAt ws (from + j)
 -- the empty cell
 unfoldable pub empty : Cell
 empty = record { worth = 0; code = 0 }
+
+-- the row at `from` between empty cells: `skip` of them come before its `count` cells
+unfoldable pub carriedRow : List ℕ → ℕ → ℕ → ℕ → ℕ → Cell
+unfolding empty
+carriedRow ws from skip count j = cond (leb skip j && ltb j (skip + count)) (cellAt ws (from + (j - skip))) empty
 
 -- a row of empty cells
 unfoldable pub noCell : ℕ → Cell

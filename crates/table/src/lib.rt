@@ -5,7 +5,7 @@ ghost use lib.ListN.{length};
 ghost use mathlib.Core.Bool.{cond, true};
 ghost use lib.Dec.{ltb};
 ghost use Rattle.model.proofs.CellLaws.{countUpto};
-ghost use Rattle.table.specs.Table.{cellAt, putAt, offered, offeredAt, Room, Rows, Roomy, Filled, offeredRow, copiedRow, noCell, reached};
+ghost use Rattle.table.specs.Table.{cellAt, putAt, offered, offeredAt, Room, Rows, Roomy, Filled, offeredRow, copiedRow, carriedRow, noCell, reached};
 
 // A cell: `worth` is 0 where it is empty, and else one more than the worth of its choice; `code` is the code of its choice.
 pub struct Cell {
@@ -137,4 +137,15 @@ pub fn clear(work: &mut [u64], at: usize, len: usize)
         put(work, at + j, Cell { worth: 0, code: 0 });
         j += 1;
     }
+}
+
+// Copies `count` cells, from `from` on, into the `len` cells from `to` on, behind `skip` of them; the others are emptied.
+pub fn carry_row(work: &mut [u64], from: usize, to: usize, skip: usize, count: usize, len: usize)
+    requires { ⌜ Rows (now work) from (to + skip) count ⌝ }
+    requires { ⌜ (skip + count ≤ len) × (2 * (to + len) ≤ length (now work)) ⌝ }
+    ensures { λ _. ⌜ Filled (now (work .entry)) (now (work .exit)) to len (carriedRow (now (work .entry)) from skip count) ⌝ }
+{
+    copy_row(work, from, to + skip, count);
+    clear(work, to, skip);
+    clear(work, to + skip + count, len - (skip + count));
 }

@@ -1,9 +1,10 @@
 -- `pass::load_row` meets its contract. An emptied stretch that is offered what each setting brings holds the best of the offers.
 -- Assumes nothing.
+use mathlib.Core.Path.{refl}
 use native.Mathlib.Omega.{arith}
 use borrow.Author.Needs.{needs}
 use Prim.Native.Nat.{_≤_, _+_, _*_}
-use Rattle.pass.proofs.LayerLaws.{span-ends, clear-room, cleared-rows, cleared-room, cleared-vacant, count-room, row-made, row-empty}
+use Rattle.pass.proofs.LayerLaws.{span-ends, opened-rows, opened-room, count-room, row-made, row-empty}
 use Rattle.pass.proofs.load_row.Statement.{statement}
 use Rattle.pass.proofs.load_row.Tie as tie
 
@@ -33,13 +34,11 @@ add-at-2 c = omega (arith, ends (c .before .before))
 sub-len : tie.Need-sub-len
 sub-len c = search needs
 
-clear-requires : tie.Need-clear-requires
-clear-requires c κs =
+open-row-requires : tie.Need-open-row-requires
+open-row-requires c κs =
     let t = c .before .before .before .before in
     let p = t .before .before .before .before .pre in
-    let q = t .before .before .span-of .ensures in
-    let h = t .if1 .taken in
-    clear-room _ _ _ _ (p .0) (p .1 .1 .1 .0) q (p .1 .0) h
+    (p .0, (p .1 .0, (p .1 .1 .0, (p .1 .1 .1 .0, (p .1 .1 .1 .1 .0, (t .before .before .span-of .ensures, (t .if1 .taken, refl)))))))
 
 settings-row-requires : tie.Need-settings-row-requires
 settings-row-requires c κs =
@@ -47,20 +46,17 @@ settings-row-requires c κs =
     let p = t .before .before .before .before .pre in
     let q = t .before .before .span-of .ensures in
     let h = t .if1 .taken in
-    let f = c .before .before .before .clear .ensures in (
+    let f = c .before .before .before .open-row .ensures in (
       p .0,
       (
-        cleared-rows _ _ _ _ (p .0) (p .1 .1 .1 .0) q (p .1 .0) h f,
+        opened-rows _ _ _ _ (p .0) (p .1 .1 .1 .0) q (p .1 .0) h f,
         (
           p .1 .1 .0,
           (
             p .1 .1 .1 .0,
             (
               p .1 .1 .1 .1 .0,
-              (
-                cleared-room _ _ _ _ (p .0) (p .1 .1 .1 .0) q (p .1 .0) h f (p .1 .1 .1 .1 .1),
-                cleared-vacant _ _ _ _ (p .0) (p .1 .1 .1 .0) q (p .1 .0) h f,
-              ),
+              (opened-room _ _ _ _ (p .0) (p .1 .1 .1 .0) q (p .1 .0) h f (p .1 .1 .1 .1 .1), f .few),
             ),
           ),
         ),
@@ -73,7 +69,7 @@ count-if-requires c κs =
     let p = t .before .before .before .before .pre in
     let q = t .before .before .span-of .ensures in
     let h = t .if1 .taken in
-    let f = c .before .before .before .before .before .before .before .clear .ensures in
+    let f = c .before .before .before .before .before .before .before .open-row .ensures in
     count-room _ _ _ _ (p .0) (p .1 .1 .1 .0) q (p .1 .0) h f (c .before .before .before .settings-row .ensures)
 
 same-length : tie.Need-same-length
@@ -85,7 +81,7 @@ returns c =
     let p = t .before .before .before .before .pre in
     let q = t .before .before .span-of .ensures in
     let h = t .if1 .taken in
-    let f = c .before .before .before .before .before .before .before .before .clear .ensures in
+    let f = c .before .before .before .before .before .before .before .before .open-row .ensures in
     row-made _ _ _ _ (p .0) (p .1 .1 .1 .0) q (p .1 .0) h f (c .before .before .before .before .settings-row .ensures) (p .1 .1 .1 .1 .1) (c .count-if .ensures .0) (c .count-if .ensures .1)
 
 returns-2 : tie.Need-returns-2
@@ -102,7 +98,7 @@ load-row-spec =
     add-at
     add-at-2
     sub-len
-    clear-requires
+    open-row-requires
     settings-row-requires
     count-if-requires
     same-length

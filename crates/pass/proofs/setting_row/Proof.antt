@@ -2,7 +2,8 @@
 -- Assumes nothing.
 use native.Mathlib.Omega.{arith}
 use borrow.Author.Needs.{needs}
-use Rattle.pass.proofs.MoveLaws.{Ends, move-ends, move-rows, move-roomy, move-vacant, move-keys, move-still}
+use Rattle.pass.specs.Pass.{Ends}
+use Rattle.pass.proofs.MoveLaws.{move-ends, move-rows, move-roomy, move-keys, move-still}
 use Rattle.pass.proofs.setting_row.Statement.{statement}
 use Rattle.pass.proofs.setting_row.Tie as tie
 
@@ -18,46 +19,29 @@ ends c =
     let p = c .before .before .before .before .pre in
     move-ends _ _ _ _ (p .0) (p .1 .1 .0) (p .1 .1 .1 .0) (p .1 .1 .1 .1 .0) (c .before .before .part-of .ensures) (c .if1 .taken)
 
-sub-from : tie.Need-sub-from
-sub-from c = omega (arith, ends (c .before))
-
-mul-from : tie.Need-mul-from
-mul-from c = omega (arith, ends (c .before .before))
-
-add-from : tie.Need-add-from
-add-from c = omega (arith, ends (c .before .before))
-
-add-from-2 : tie.Need-add-from-2
-add-from-2 c = omega (arith, ends (c .before .before .before .before))
-
-sub-from-2 : tie.Need-sub-from-2
-sub-from-2 c = omega (arith, ends (c .before .before .before .before .before))
-
-add-from-3 : tie.Need-add-from-3
-add-from-3 c = omega (arith, ends (c .before .before .before .before .before))
+source-cell-requires : tie.Need-source-cell-requires
+source-cell-requires c κs = (ends c, omega (arith, c .before .before .before .before .pre .1 .1 .1 .1 .0 .up-fits))
 
 mul-to : tie.Need-mul-to
-mul-to c = omega (arith, ends (c .before .before .before .before .before .before))
+mul-to c = omega (arith, ends (c .before .before))
 
 add-to : tie.Need-add-to
-add-to c = omega (arith, ends (c .before .before .before .before .before .before))
+add-to c = omega (arith, ends (c .before .before))
 
 add-to-2 : tie.Need-add-to-2
-add-to-2 c = omega (arith, ends (c .before .before .before .before .before .before .before))
+add-to-2 c = omega (arith, ends (c .before .before .before))
 
-sub-give-row : tie.Need-sub-give-row
-sub-give-row c = omega (arith, ends (c .before .before .before .before .before .before .before .before .before))
+sub-offer-row : tie.Need-sub-offer-row
+sub-offer-row c = omega (arith, ends (c .before .before .before .before .before))
 
-give-row-requires : tie.Need-give-row-requires
-give-row-requires c κs =
-    let t = c .before .before .before .before .before .before .before .before .before in
+offer-row-requires : tie.Need-offer-row-requires
+offer-row-requires c κs =
+    let t = c .before .before .before .before .before in
     let p = t .before .before .before .before .pre in
-    let q = t .before .before .part-of .ensures in (
+    let q = t .before .before .part-of .ensures in
+    rw (c .before .before .before .before .source-cell .ensures) (
       move-rows _ _ _ _ (p .0) (p .1 .1 .0) (p .1 .1 .1 .0) (p .1 .1 .1 .1 .0) q (p .1 .0) (t .if1 .taken),
-      (
-        move-roomy _ _ _ _ (p .0) (p .1 .1 .0) (p .1 .1 .1 .0) (p .1 .1 .1 .1 .0) q (p .1 .0) (t .if1 .taken) (p .1 .1 .1 .1 .1 .0),
-        (λ v. move-vacant _ _ _ _ (p .0) (p .1 .1 .0) (p .1 .1 .1 .0) (p .1 .1 .1 .1 .0) q (p .1 .0) (t .if1 .taken) (p .1 .1 .1 .1 .1 .1 v)),
-      ),
+      move-roomy _ _ _ _ (p .0) (p .1 .1 .0) (p .1 .1 .1 .0) (p .1 .1 .1 .1 .0) q (p .1 .0) (t .if1 .taken) (p .1 .1 .1 .1 .1),
     )
 
 same-length : tie.Need-same-length
@@ -65,10 +49,11 @@ same-length c = search needs
 
 returns : tie.Need-returns
 returns c =
-    let t = c .before .before .before .before .before .before .before .before .before .before .before .before in
+    let t = c .before .before .before .before .before .before .before .before in
     let p = t .before .before .before .before .pre in
     let q = t .before .before .part-of .ensures in
-    move-keys _ _ _ _ (p .0) (p .1 .1 .0) (p .1 .1 .1 .0) (p .1 .1 .1 .1 .0) q (p .1 .0) (t .if1 .taken) (c .before .before .give-row .ensures)
+    let f = rw (c .before .before .before .before .before .before .before .source-cell .ensures) at (c .before .before .offer-row .ensures) in
+    move-keys _ _ _ _ (p .0) (p .1 .1 .0) (p .1 .1 .1 .0) (p .1 .1 .1 .1 .0) q (p .1 .0) (t .if1 .taken) f
 
 returns-2 : tie.Need-returns-2
 returns-2 c =
@@ -80,17 +65,12 @@ setting-row-spec =
     tie.close
     (tie.spec
     part-of-requires
-    sub-from
-    mul-from
-    add-from
-    add-from-2
-    sub-from-2
-    add-from-3
+    source-cell-requires
     mul-to
     add-to
     add-to-2
-    sub-give-row
-    give-row-requires
+    sub-offer-row
+    offer-row-requires
     same-length
     returns
     returns-2)

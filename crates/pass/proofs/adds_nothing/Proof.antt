@@ -1,0 +1,23 @@
+-- `pass::adds_nothing` meets its contract. Assumes nothing.
+use Prim.Native.Nat.{ℕ}
+use mathlib.Core.Path.{_≡_}
+use native.Mathlib.Omega.{arith}
+use borrow.Author.Needs.{needs}
+use borrow.Author.Tests.{eqb-true}
+use Rattle.pass.proofs.adds_nothing.Statement.{statement}
+use Rattle.pass.proofs.adds_nothing.Tie as tie
+
+element-copy-out-mv : tie.Need-element-copy-out-mv
+element-copy-out-mv c = search needs
+
+returns : tie.Need-returns
+returns c = λ t. (c .before .before .before .if1 .taken, c .before .if2 .taken, eqb-true _ _ t)
+
+returns-2 : tie.Need-returns-2
+returns-2 c = λ t. let z : _≡_ {A = ℕ} 0 1 = cc in absurd (omega arith)
+
+returns-3 : tie.Need-returns-3
+returns-3 c = λ t. let z : _≡_ {A = ℕ} 0 1 = cc in absurd (omega arith)
+
+pub adds-nothing-spec : {M : Type 1} → statement M
+adds-nothing-spec = tie.close (tie.spec element-copy-out-mv returns returns-2 returns-3)
