@@ -142,6 +142,18 @@ fn move_of(load: Load, c: usize, unit: u64, count: usize, slots: Slots) -> Setti
     }
 }
 
+// What fills the places of settings that a load does not have.
+fn no_move() -> SettingMove {
+    SettingMove {
+        gain: 0,
+        digit: 0,
+        back: 0,
+        up: 0,
+        down: 0,
+        active: [0; 4],
+    }
+}
+
 // What the settings of a load do.
 fn moves_of(load: Load, unit: u64, count: usize, slots: Slots) -> LoadMoves
     requires { ⌜ LoadHeld load ⌝ }
@@ -150,14 +162,7 @@ fn moves_of(load: Load, unit: u64, count: usize, slots: Slots) -> LoadMoves
     ensures { λ r. ⌜ ((h : LoadHeld load) (l : Laid slots count) (k : ℕ) → unit ≡ 4 ^ k → LoadIs 0 (l .slots) k (h .settings) r) ⌝ }
 {
     let settings = load.settings;
-    let still = SettingMove {
-        gain: 0,
-        digit: 0,
-        back: 0,
-        up: 0,
-        down: 0,
-        active: [0; 4],
-    };
+    let still = no_move();
     let mut moves = [still; 4];
     let mut c: usize = 0;
     while c < settings {
@@ -178,14 +183,7 @@ fn loads_of(book: Book, slots: Slots) -> [LoadMoves; 24]
 {
     let loads = book.count;
     let count = book.slots;
-    let still = SettingMove {
-        gain: 0,
-        digit: 0,
-        back: 0,
-        up: 0,
-        down: 0,
-        active: [0; 4],
-    };
+    let still = no_move();
     let none = LoadMoves {
         count: 0,
         moves: [still; 4],

@@ -22,8 +22,11 @@ Inv-loop slots book loads count moves₀ unit₀ k₀ moves unit k =
 abbrev μ-loop : tie.MeasureT-loop
 μ-loop slots book loads count moves₀ unit₀ k₀ moves unit k = loads - k
 
+no-move-requires : tie.Need-no-move-requires Inv-loop μ-loop
+no-move-requires c κs = search needs
+
 loop-holds : tie.Need-loop-holds Inv-loop μ-loop
-loop-holds c = (omega arith, held-few (c .args .t1) (c .pre .0), refl, refl, λ l i j. absurd (omega arith))
+loop-holds c = (omega arith, held-few (c .before .args .t1) (c .before .pre .0), refl, refl, λ l i j. absurd (omega arith))
 
 mul-load : tie.Need-mul-load Inv-loop μ-loop
 mul-load c = search needs
@@ -33,7 +36,7 @@ element-copy-out-load c = search needs
 
 moves-of-requires : tie.Need-moves-of-requires Inv-loop μ-loop
 moves-of-requires c κs =
-    let s = c .before .before .before in
+    let s = c .before .before .before .before in
     let m = c .before .before .loop in
     (load-held (s .args .t1) (s .pre .0) (m .k) _ (c .before .loop-test .taken), (s .pre .1, unit-small (m .unit) (m .k) (m .inv .3) (omega arith)))
 
@@ -57,7 +60,7 @@ loop-less c = search needs
 loop-again : tie.Need-loop-again Inv-loop μ-loop
 unfolding load-held
 loop-again c =
-    let s = c .before .before .before .before in
+    let s = c .before .before .before .before .before in
     let m = c .before .before .before .loop in (
       omega arith,
       m .inv .1,
@@ -79,6 +82,7 @@ loads-of-spec =
     (tie.spec
     Inv-loop
     μ-loop
+    no-move-requires
     loop-holds
     mul-load
     element-copy-out-load

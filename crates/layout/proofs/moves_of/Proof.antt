@@ -22,12 +22,15 @@ Inv-loop load unit count slots settings moves₀ c₀ moves c =
 abbrev μ-loop : tie.MeasureT-loop
 μ-loop load unit count slots settings moves₀ c₀ moves c = settings - c
 
+no-move-requires : tie.Need-no-move-requires Inv-loop μ-loop
+no-move-requires c κs = search needs
+
 loop-holds : tie.Need-loop-holds Inv-loop μ-loop
-loop-holds c = (omega arith, load-few (c .args .load) (c .pre .0), refl, λ h l k e i j. absurd (omega arith))
+loop-holds c = (omega arith, load-few (c .before .args .load) (c .before .pre .0), refl, λ h l k e i j. absurd (omega arith))
 
 move-of-requires : tie.Need-move-of-requires Inv-loop μ-loop
 move-of-requires c κs =
-    let s = c .before .before in
+    let s = c .before .before .before in
     (s .pre .0, (s .pre .1 .0, (c .loop-test .taken, s .pre .1 .1)))
 
 mul-moves : tie.Need-mul-moves Inv-loop μ-loop
@@ -54,7 +57,7 @@ loop-again c =
 
 returns : tie.Need-returns Inv-loop μ-loop
 returns c h l k e =
-    let s = c .before .before in
+    let s = c .before .before .before in
     let m = c .before .loop in
     load-all (s .args .load) h (l .slots) k (m .moves) (λ i j. m .inv .3 h l k e i (omega arith))
 
@@ -64,6 +67,7 @@ moves-of-spec =
     (tie.spec
     Inv-loop
     μ-loop
+    no-move-requires
     loop-holds
     move-of-requires
     mul-moves
