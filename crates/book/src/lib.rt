@@ -8,7 +8,7 @@ use model::Refusal;
 ghost use mathlib.Core.Path.{_≡_};
 ghost use mathlib.Core.Bool.{not};
 ghost use mathlib.Core.List.{map};
-ghost use Prim.Native.Nat.{_+_, _-_, _*_, _≤_, _<_};
+ghost use Prim.Native.Nat.{_+_, _*_, _≤_, _<_};
 ghost use lib.ListN.{length, getD};
 ghost use Rattle.model.specs.Lists.{within, upto};
 ghost use Rattle.model.specs.declared.Finding.the-variants.{Passed};
@@ -115,16 +115,6 @@ fn power_at(line: &[u8], at: usize) -> PowerValue
     }
 }
 
-// The distance of two numbers.
-pub fn distance(a: u64, b: u64) -> u64
-    ensures { λ r. ⌜ r ≡ (a - b) + (b - a) ⌝ }
-{
-    if a < b {
-        return b - a;
-    }
-    a - b
-}
-
 // |Q| > P in option j + 1 and slot s.
 fn exceeds_at(line: &[u8], slots: usize, j: usize, s: usize) -> bool
     requires { ⌜ Room slots j (now line) ⌝ }
@@ -133,7 +123,7 @@ fn exceeds_at(line: &[u8], slots: usize, j: usize, s: usize) -> bool
 {
     let at = option_start(slots, j);
     let power = power_at(line, at + 4 + 8 * s);
-    power.active < distance(power.reactive, 32768)
+    power.active < model::distance(power.reactive, 32768)
 }
 
 // |Q| > P in some option and slot.

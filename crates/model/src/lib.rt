@@ -1,5 +1,6 @@
 // The declared types of the load planner. What a value of each says is defined in specs/.
 ghost use mathlib.Core.Path.{_≡_};
+ghost use Prim.Native.Nat.{_+_, _-_};
 ghost use Rattle.model.specs.Refusals.{numberOf, refused};
 ghost use Rattle.model.specs.Calls.{answerOf};
 ghost use Rattle.model.specs.Values.{loadValue, freshBook};
@@ -147,4 +148,14 @@ impl Answer {
             trials: 0,
         }
     }
+}
+
+// How far two numbers lie apart: |Q| where Q and 0 are raised alike.
+pub fn distance(a: u64, b: u64) -> u64
+    ensures { λ r. ⌜ r ≡ (a - b) + (b - a) ⌝ }
+{
+    if a < b {
+        return b - a;
+    }
+    a - b
 }

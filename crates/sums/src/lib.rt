@@ -118,7 +118,7 @@ fn fits(p: u64, q: u64, zero: u64, limit: u64) -> bool
     requires { ⌜ (p < 2147483648) × (q < 2147483648) × (zero < 2147483648) × (limit < 65536) ⌝ }
     ensures { λ r. ⌜ r ≡ leb (square p + square ((q - zero) + (zero - q))) (square limit) ⌝ }
 {
-    let size = if zero <= q { q - zero } else { zero - q };
+    let size = model::distance(q, zero);
     p * p + size * size <= limit * limit
 }
 
