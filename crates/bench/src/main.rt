@@ -13,7 +13,7 @@ ghost use mathlib.Core.Path.{_≡_};
 ghost use lib.ListN.{length};
 
 // How many books are drawn.
-const TURNS: u64 = 3000;
+const TURNS: u64 = 10000;
 
 // Words for books of up to 65,536 cells, with something in them.
 fn work_area() -> [u64; 262144]

@@ -17,7 +17,7 @@ use Rattle.pass.specs.declared.SettingMove.{SettingMove}
 use Rattle.pass.specs.declared.Grid.{Grid}
 use Rattle.pass.specs.declared.LoadMoves.{LoadMoves}
 use Rattle.pass.specs.declared.Stretch.{Stretch}
-use Rattle.pass.specs.Pass.{held, sourceOf, moveOf, offerOf, raise, raiseUpto, GridFits, StretchesFit, MoveFits, MoveRoom, LoadRoom, Offers, Part, Ends, Opened, RowKeys, raisedRow, raisedRows}
+use Rattle.pass.specs.Pass.{held, sourceOf, moveOf, offerOf, raise, raiseUpto, GridFits, StretchesFit, MoveFits, MoveRoom, LoadRoom, Offers, Part, Ends, RowKeys, raisedRow, raisedRows}
 use Rattle.pass.proofs.KeyLaws.{key-offered, bounded-room}
 use Rattle.pass.proofs.SourceLaws.{row-end, held-in, source-in, source-out, Same, source-same, room-same, move-room, keys-same, rows-same}
 

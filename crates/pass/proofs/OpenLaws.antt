@@ -1,7 +1,6 @@
 -- Laws of `open_row`: a stretch that is emptied, and one into which a first setting that adds nothing is copied. Assumes nothing.
 use Prim.Native.Nat.{ℕ, _+_, _-_, _*_, _<_, _≤_}
 use mathlib.Core.Path.{_≡_, refl, sym, ap, ap₂, _∙_}
-use mathlib.Core.Bool.{cond, _&&_}
 use mathlib.Core.List.{List}
 use mathlib.Core.Option.{Option, none, some}
 use mathlib.Core.Logic.{_⊎_, inl, inr, ⊎-elim}
@@ -10,11 +9,11 @@ use native.Mathlib.Omega.{arith}
 use borrow.Author.Tests.{lt-ltb, le-ltb, le-leb, lt-leb}
 use Rattle.model.proofs.OrderLaws.{Key, shift?}
 use Rattle.model.proofs.IntegerLaws.{split}
-use Rattle.table.specs.Table.{cellAt, keyOf, carriedRow, noCell, Filled, Rows}
+use Rattle.table.specs.Table.{cellAt, keyOf, carriedRow, noCell, Filled}
 use Rattle.pass.specs.declared.Grid.{Grid}
 use Rattle.pass.specs.declared.LoadMoves.{LoadMoves}
 use Rattle.pass.specs.declared.Stretch.{Stretch}
-use Rattle.pass.specs.Pass.{sourceOf, moveOf, offerOf, raise, raiseUpto, StretchesFit, Part, Ends, Spans, Opened}
+use Rattle.pass.specs.Pass.{sourceOf, moveOf, offerOf, raiseUpto, StretchesFit, Part, Ends, Spans, Opened}
 use Rattle.pass.proofs.KeyLaws.{key-empty}
 use Rattle.pass.proofs.SourceLaws.{source-in, source-out}
 
