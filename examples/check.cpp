@@ -107,14 +107,15 @@ void print_slot(std::size_t number, const Slot &slot, bool held)
                 tenths(static_cast<std::int64_t>(slot.limit)).c_str(), share(slot).c_str(), held ? "holds" : "trips");
 }
 
-void print_loads(const std::string &sheet, std::size_t loads)
+// Prints the level of each load, from the code of the choice.
+void print_loads(std::uint64_t code, std::size_t loads)
 {
-    for (std::size_t k = 0; k < loads; k++) {
-        const std::uint64_t level = field(sheet, 18 + 2 * k, 2);
+    for (std::size_t k = 1; k <= loads; k++) {
+        const auto level = static_cast<int>((code >> 2 * (k - 1)) & 3);
         if (level == 0)
-            std::printf("load %zu stands\n", k + 1);
+            std::printf("load %zu stands\n", k);
         else
-            std::printf("load %zu runs at level %d\n", k + 1, static_cast<int>(level));
+            std::printf("load %zu runs at level %d\n", k, level);
     }
 }
 
@@ -143,7 +144,7 @@ int check(const std::string &book, const std::string &sheet, std::uint64_t perce
     const std::size_t slots = field(book, 2, 2);
     const std::size_t loads = field(book, 4, 2);
     std::printf("worth %s, trials %s\n", std::to_string(reading.worth).c_str(), std::to_string(reading.trials).c_str());
-    print_loads(sheet, loads);
+    print_loads(reading.code, loads);
     return print_slots(sheet, slots, loads, percent) ? 0 : 3;
 }
 

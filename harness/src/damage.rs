@@ -105,23 +105,43 @@ fn slacken(random: &mut Random, line: &mut [u8], slots: usize) {
     put(line, at, random.pick(&powers));
 }
 
-/// The value that a byte is changed to; a number of styles that all bytes of a book can be changed in.
+/// Another value for a byte, never its own. The style, of 0 to `STYLES` - 1, selects which:
+///
+/// - 0: the small letter of a capital one, and `a` for any other byte
+/// - 1: the value with its highest bit flipped
+/// - 2, 3: the next value, the value before
+/// - 4, 5, 6: a random digit (three styles, so that digits come up more often)
+/// - 7: a random value
+/// - 8 and up: the values of `FIXED` in their order
+///
+/// Where this gives the byte's own value, 4 to 7 draw again and the others go on to the next style.
 pub fn changed(random: &mut Random, byte: u8, style: usize) -> u8 {
-    const FIXED: &[u8] = b"\n\r\0\xFF /:@G`g";
-    match style % STYLES {
-        0 if byte.is_ascii_uppercase() => byte.to_ascii_lowercase(),
-        0 => b'a',
-        1 => byte ^ 0x80,
-        2 => byte.wrapping_add(1),
-        3 => byte.wrapping_sub(1),
-        4..=6 => random.pick(b"0123456789ABCDEF"),
-        7 => random.word() as u8,
-        style => FIXED[style - 8],
+    let mut style = style;
+    loop {
+        let value = match style {
+            0 if byte.is_ascii_uppercase() => byte.to_ascii_lowercase(),
+            0 => b'a',
+            1 => byte ^ 0x80,
+            2 => byte.wrapping_add(1),
+            3 => byte.wrapping_sub(1),
+            4..=6 => random.pick(b"0123456789ABCDEF"),
+            7 => random.word() as u8,
+            _ => FIXED[style - 8],
+        };
+        if value != byte {
+            return value;
+        }
+        if !(4..=7).contains(&style) {
+            style = (style + 1) % STYLES;
+        }
     }
 }
 
+/// The values of the styles from 8 up of `changed`.
+const FIXED: &[u8] = b"\n\r\0\xFF /:@G`g";
+
 /// The number of styles of `changed`.
-pub const STYLES: usize = 8 + 11;
+pub const STYLES: usize = 8 + FIXED.len();
 
 /// Inserts or deletes one to four bytes.
 pub fn shift(random: &mut Random, text: &mut Vec<u8>) {

@@ -15,26 +15,26 @@ pub struct Kind {
 }
 
 pub const KINDS: &[Kind] = &[
-    kind("small books", 1_280, small_books),
+    kind("small books", 1_080, small_books),
     kind("larger grids", 100, larger_grids),
     kind("many loads", 150, many_loads),
     kind("large tables", 20, large_tables),
-    kind("budgets", 900, budgets),
-    kind("work areas", 700, work_areas),
-    kind("sheet buffers", 600, buffers),
-    kind("several shortages", 700, shortages),
-    kind("words of earlier plans", 400, earlier_words),
-    kind("oversize books", 400, oversize_books),
+    kind("budgets", 750, budgets),
+    kind("work areas", 550, work_areas),
+    kind("sheet buffers", 500, buffers),
+    kind("several shortages", 550, shortages),
+    kind("words of earlier plans", 350, earlier_words),
+    kind("oversize books", 350, oversize_books),
     kind("1,048,576 cells", 2, full_tables),
-    kind("one fault", 1_000, one_fault),
-    kind("two faults", 800, two_faults),
-    kind("truncated books", 500, truncated_books),
-    kind("a byte changed", 900, changed_books),
+    kind("one fault", 800, one_fault),
+    kind("two faults", 600, two_faults),
+    kind("truncated books", 900, truncated_books),
+    kind("a byte changed", 1_800, changed_books),
     kind("bytes inserted, deleted", 300, shifted_books),
     kind("lines exchanged", 200, reordered_books),
     kind("random bytes", 100, random_bytes),
     kind("random digits", 100, random_digits),
-    kind("sheets of choices", 300, sheets_of_choices),
+    kind("sheets of choices", 250, sheets_of_choices),
     kind("sheets, a byte changed", 300, changed_sheets),
     kind("sheets, cut or longer", 150, cut_sheets),
     kind("sheets of other books", 50, foreign_sheets),
@@ -117,22 +117,41 @@ fn all_calls(session: &mut Session, case: &Case) {
     session.read_sheet(case, &case.quick(buffer).sheet);
 }
 
-/// One of the three calls on bytes that may be no book.
+/// The three calls on bytes that may be no book.
+const CALLS: [fn(&mut Session, &Case); 3] = [plan_any, quick_any, read_any];
+
 fn one_call(session: &mut Session, case: &Case) {
+    let call = session.random.pick(&CALLS);
+    call(session, case);
+}
+
+fn each_call(session: &mut Session, case: &Case) {
+    for call in CALLS {
+        call(session, case);
+    }
+}
+
+fn plan_any(session: &mut Session, case: &Case) {
     let words = needed_words(case) + session.random.below(20);
     let buffer = case.sheet_bytes() + session.random.below(20);
-    match session.random.below(3) {
-        0 => drop(session.plan(case, words, buffer)),
-        1 => session.quick(case, buffer),
-        _ => {
-            let random = &mut session.random;
-            let sheet = match &case.book {
-                Ok(book) => random_sheet(random, book),
-                Err(_) => (0..buffer).map(|_| plausible(random)).collect(),
-            };
-            session.read_sheet(case, &sheet);
+    session.plan(case, words, buffer);
+}
+
+fn quick_any(session: &mut Session, case: &Case) {
+    let buffer = case.sheet_bytes() + session.random.below(20);
+    session.quick(case, buffer);
+}
+
+fn read_any(session: &mut Session, case: &Case) {
+    let random = &mut session.random;
+    let sheet = match &case.book {
+        Ok(book) => random_sheet(random, book),
+        Err(_) => {
+            let bytes = case.sheet_bytes() + random.below(20);
+            (0..bytes).map(|_| plausible(random)).collect()
         }
-    }
+    };
+    session.read_sheet(case, &sheet);
 }
 
 fn small_books(session: &mut Session) {
@@ -256,22 +275,22 @@ fn faulty_book(session: &mut Session, faults: usize) {
     (0..3).for_each(|_| one_call(session, &case));
 }
 
-/// Every length that a book can be cut to.
+/// Every length that a book can be cut to, each in the three calls.
 fn truncated_books(session: &mut Session) {
     let text = draw::text(&draw::book(&mut session.random, SMALL));
     for length in 0..text.len() {
-        one_call(session, &Case::new(text[..length].to_vec()));
+        each_call(session, &Case::new(text[..length].to_vec()));
     }
 }
 
-/// Every byte of a book changed in turn, in one style.
+/// Every byte of a book changed in turn, in one style, each change in the three calls.
 fn changed_books(session: &mut Session) {
     let text = draw::text(&draw::book(&mut session.random, SMALL));
     let style = session.random.below(STYLES);
     for at in 0..text.len() {
         let mut text = text.clone();
         text[at] = changed(&mut session.random, text[at], style);
-        one_call(session, &Case::new(text));
+        each_call(session, &Case::new(text));
     }
 }
 

@@ -23,13 +23,18 @@ struct Base {
 /// An alteration of a call.
 type Alteration = (&'static str, fn(&mut Call));
 
-const ALTERATIONS: &[Alteration] = &[
+/// The fields of the answer.
+const FIELDS: &[Alteration] = &[
     ("number", |call| call.answer.number ^= 1),
     ("line", |call| call.answer.line ^= 1),
     ("bytes", |call| call.answer.bytes ^= 1),
     ("worth", |call| call.answer.worth ^= 1),
     ("trials", |call| call.answer.trials ^= 1),
     ("code", |call| call.answer.code ^= 1),
+];
+
+/// The memory that was lent and around it.
+const MEMORY: &[Alteration] = &[
     ("first byte of the sheet", |call| call.sheet.flip(0)),
     ("last byte of the sheet", |call| call.sheet.flip(SHEET as isize - 1)),
     ("byte past the sheet", |call| call.sheet.flip(SHEET as isize)),
@@ -87,7 +92,7 @@ pub fn run() -> Checks {
     for base in bases() {
         check_base(&mut checks, &base);
     }
-    for (name, alter) in ALTERATIONS.iter().take(6) {
+    for (name, alter) in FIELDS {
         check_session(&mut checks, name, *alter);
     }
     checks
@@ -95,7 +100,7 @@ pub fn run() -> Checks {
 
 fn check_base(checks: &mut Checks, base: &Base) {
     checks.reported(base, &("nothing", |_| ()), false);
-    for alteration in ALTERATIONS {
+    for alteration in FIELDS.iter().chain(MEMORY) {
         checks.reported(base, alteration, true);
     }
     if base.call.function == Function::Plan {

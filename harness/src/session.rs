@@ -7,7 +7,7 @@ use crate::reference::{Case, Outcome};
 /// How many differences are kept for printing.
 const MOST_DIFFERENCES: usize = 20;
 
-/// The functions with their names, in the order of the table of refusals.
+/// The functions with their names, in the order of `enum Function`.
 const FUNCTIONS: [(Function, &str); 3] = [
     (Function::Plan, "plan"),
     (Function::Quick, "quick"),

@@ -186,17 +186,16 @@ fn compare_plan(
     sheet: &[u8],
     used: u64,
 ) {
-    let kept = if wanted.number == 0 || wanted.number == 12 {
+    let free = if wanted.number == 0 || wanted.number == 12 {
         used
     } else {
         0
     };
-    let end = lesser(words, plus(kept, 64));
     let mut buffer = [46u8; 192];
-    mark(work, kept, end);
+    mark(work, free, words);
     let answer = ask_planner(book, length, work, words, &mut buffer, room);
     let same = same_answer(answer, wanted)
-        && marked(work, kept, end)
+        && marked(work, free, words)
         && same_buffer(&buffer, sheet, wanted);
     settle(tally, kinds::PLANNER, wanted, same);
 }
@@ -322,6 +321,19 @@ fn compare_cases(
     }
 }
 
+// Counts a book by what the enumeration found; `planned` says that it fits the work area.
+fn count_book(tally: &mut [u64], book: &[u64], equals: u64, planned: bool) {
+    let slots = fields::slots(book);
+    let steps = fields::steps_above(book);
+    count(tally, kinds::TIES, equals > 0);
+    count(tally, plus(kinds::STEPPED, slots), both(planned, steps > 0));
+    count(
+        tally,
+        plus(kinds::STEPPED_TWICE, slots),
+        both(planned, steps > 1),
+    );
+}
+
 fn compare_plans(tally: &mut [u64], book: &mut [u64], lists: &[u64], work: &mut [u64]) {
     let trials = enumerate::trials(book, lists);
     let best = enumerate::best_choice(book);
@@ -339,7 +351,7 @@ fn compare_plans(tally: &mut [u64], book: &mut [u64], lists: &[u64], work: &mut 
         done,
         need: times(4, enumerate::cells(book)),
     };
-    count(tally, kinds::TIES, best.equals > 0);
+    count_book(tally, book, best.equals, found.need <= work.len() as u64);
     compare_cases(tally, book, work, found, &sheet);
 }
 
@@ -398,10 +410,23 @@ fn try_choice(found: Wanted, book: &[u64], sheet: &[u8], bytes: u64, choice: u64
     }
 }
 
+// A number of trials, or now and then the least or the greatest that there is.
+fn end_or(trials: u64, some: u64) -> u64 {
+    let kind = rest(some, 8);
+    if kind == 0 {
+        0
+    } else if kind == 1 {
+        0xFFFFFFFF
+    } else {
+        trials
+    }
+}
+
 // A sheet of some choice and some trials, as it is, or with a byte changed, taken off or added. Gives its length.
 fn draw_sheet(dice: &mut [u64], sheet: &mut [u8], book: &[u64], kind: u64) -> u64 {
     let choice = roll(dice, enumerate::choices(book, fields::loads(book)));
-    let trials = times(roll(dice, 65536), roll(dice, 65537));
+    let some = roll(dice, 65537);
+    let trials = end_or(times(some, roll(dice, 65536)), some);
     let bytes = text::put_sheet(sheet, book, choice, trials);
     if kind == 1 {
         put_byte(
@@ -503,7 +528,7 @@ fn compare_one_fault(dice: &mut [u64], tally: &mut [u64], book: &[u64], work: &m
 fn compare_two_faults(dice: &mut [u64], tally: &mut [u64], book: &[u64], work: &mut [u64]) {
     let two = damage::draw_two(dice, book);
     compare_faults(dice, tally, book, work, two);
-    count(tally, plus(kinds::FAULTS, 2), true);
+    count(tally, plus(kinds::FAULTS, damage::shown(two)), true);
 }
 
 pub fn compare_damaged(dice: &mut [u64], tally: &mut [u64], book: &[u64], work: &mut [u64]) {

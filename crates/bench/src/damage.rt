@@ -3,6 +3,7 @@
 use crate::draw::roll;
 use crate::fields;
 use crate::plain::byte_at;
+use crate::plain::greater;
 use crate::plain::lesser;
 use crate::plain::minus;
 use crate::plain::plus;
@@ -67,6 +68,17 @@ pub fn draw_two(dice: &mut [u64], book: &[u64]) -> Faults {
     Faults { high, low }
 }
 
+// How many of two faults are in the text: nothing comes after a torn line.
+pub fn shown(faults: Faults) -> u64 {
+    let high = faults.high;
+    let low = faults.low;
+    if low.number == 1 && high.line > low.line {
+        1
+    } else {
+        2
+    }
+}
+
 // The fault that is answered.
 pub fn first(faults: Faults) -> Fault {
     let high = faults.high;
@@ -76,8 +88,14 @@ pub fn first(faults: Faults) -> Fault {
 
 // T or o out of its range, by two digits that begin at the line's third.
 fn crowd(text: &mut [u8], start: u64, dice: &mut [u64]) {
-    let n = roll(dice, 252);
-    let range = if n == 0 { 0 } else { plus(n, 4) };
+    let least = if start == 0 { 5 } else { 4 };
+    let kind = roll(dice, 3);
+    let more = roll(dice, minus(256, least));
+    let range = if kind == 0 {
+        0
+    } else {
+        plus(least, times(more, minus(kind, 1)))
+    };
     put_number(text, plus(start, 2), 2, range);
 }
 
@@ -112,20 +130,32 @@ fn draw_pair(dice: &mut [u64], book: &[u64], load: u64) -> u64 {
     plus(8, plus(times(option, each), times(8, slot)))
 }
 
+// One above P, the farthest that there is, or between.
+fn farther(p: u64, more: u64, kind: u64) -> u64 {
+    if kind == 0 {
+        plus(p, 1)
+    } else if kind == 1 {
+        32768
+    } else {
+        plus(plus(p, 1), more)
+    }
+}
+
 // |Q| one above P, or more, in some option and slot.
 fn slacken(text: &mut [u8], start: u64, dice: &mut [u64], book: &[u64], load: u64) {
     let place = plus(start, draw_pair(dice, book, load));
-    let p = roll(dice, 32767);
-    let far = plus(plus(p, 1), roll(dice, minus(32767, p)));
+    let p = roll(dice, 32768);
+    let far = farther(p, roll(dice, minus(32768, p)), roll(dice, 3));
     let q = either(far, roll(dice, 2));
     let next = put_number(text, place, 4, p);
     put_number(text, next, 4, q);
 }
 
-// A byte of the line that is no digit.
-fn smudge(text: &mut [u8], start: u64, end: u64, dice: &mut [u64]) {
+// A byte of the line that is no digit; an empty line gets one.
+fn smudge(text: &mut [u8], start: u64, end: u64, dice: &mut [u64]) -> u64 {
     let place = plus(start, roll(dice, minus(end, start)));
     put_byte(text, place, byte_at(b"gafG:/@` \r\t\0", roll(dice, 12)));
+    greater(end, plus(place, 1))
 }
 
 // Puts one fault into a line without its end, and gives the line's new end.
@@ -153,8 +183,7 @@ fn put_fault(
     } else if kind == 3 {
         stray(text, start, end, dice)
     } else if kind == 2 {
-        smudge(text, start, end, dice);
-        end
+        smudge(text, start, end, dice)
     } else {
         plus(start, roll(dice, plus(minus(end, start), 1)))
     }
@@ -163,10 +192,16 @@ fn put_fault(
 // Fewer than 4 digits, or a kind that is not due.
 fn stray(text: &mut [u8], start: u64, end: u64, dice: &mut [u64]) -> u64 {
     let digits = roll(dice, 8);
-    if digits < 4 && digits > 0 {
+    let due = if start == 0 { 1 } else { 2 };
+    if digits < 4 {
         plus(start, digits)
     } else {
-        put_number(text, start, 2, plus(3, roll(dice, 253)));
+        put_number(
+            text,
+            start,
+            2,
+            rest(plus(plus(due, 1), roll(dice, 255)), 256),
+        );
         end
     }
 }

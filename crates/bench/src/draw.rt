@@ -27,8 +27,8 @@ fn is_tight(slots: u64, loads: u64) -> bool {
 
 // A fineness for which most books fit the work area.
 fn draw_fineness(dice: &mut [u64], slots: u64, loads: u64) -> u64 {
-    let any = roll(dice, 32) == 0;
-    if any || is_tight(slots, loads) {
+    let kind = roll(dice, 32);
+    if kind == 0 || (kind < 16 && is_tight(slots, loads)) {
         plus(1, roll(dice, 64))
     } else if slots == 1 {
         plus(1, roll(dice, lesser(64, over(160, loads))))
@@ -39,7 +39,25 @@ fn draw_fineness(dice: &mut [u64], slots: u64, loads: u64) -> u64 {
     }
 }
 
-// A limit: 0, near 0, below the first step above 1, a multiple of N × d and a little more, or any.
+// A limit of a tight book: with the least fineness a step above 1 in some slots and 0 in most others, else near 0.
+fn draw_tight(dice: &mut [u64], book: &[u64]) -> u64 {
+    let kind = roll(dice, 16);
+    if fields::fineness(book) == 1 && kind < 6 {
+        draw_multiple(dice, fields::loads(book))
+    } else if fields::fineness(book) == 1 && kind < 13 {
+        0
+    } else {
+        roll(dice, minus(6, fields::slots(book)))
+    }
+}
+
+// A multiple of N × d and a little more, so that R is N × d.
+fn draw_multiple(dice: &mut [u64], parts: u64) -> u64 {
+    let step = plus(1, roll(dice, lesser(200, minus(over(65535, parts), 1))));
+    plus(times(parts, step), roll(dice, lesser(step, parts)))
+}
+
+// A limit: any, 0, near 0, below the first step above 1, or a multiple of N × d and a little more.
 fn draw_limit(dice: &mut [u64], book: &[u64]) -> u64 {
     let parts = times(fields::loads(book), fields::fineness(book));
     let kind = roll(dice, 16);
@@ -48,19 +66,24 @@ fn draw_limit(dice: &mut [u64], book: &[u64]) -> u64 {
     } else if kind == 1 {
         0
     } else if is_tight(fields::slots(book), fields::loads(book)) {
-        roll(dice, minus(6, fields::slots(book)))
+        draw_tight(dice, book)
     } else if kind < 6 {
         roll(dice, times(2, parts))
     } else {
-        let step = plus(1, roll(dice, lesser(200, minus(over(65535, parts), 1))));
-        plus(times(parts, step), roll(dice, lesser(step, parts)))
+        draw_multiple(dice, parts)
     }
 }
 
 // T in turn, then N and d; the budget is the most there is.
 fn draw_header(dice: &mut [u64], tally: &mut [u64], book: &mut [u64], turn: u64) {
     let slots = plus(1, rest(turn, 4));
-    let loads = plus(1, roll(dice, 8));
+    let many = roll(dice, 24) == 0;
+    let few = roll(dice, 8);
+    let loads = if many {
+        plus(9, rest(few, 2))
+    } else {
+        plus(1, few)
+    };
     put(book, 0, slots);
     put(book, 1, loads);
     put(book, 2, draw_fineness(dice, slots, loads));
@@ -146,7 +169,12 @@ fn draw_number(dice: &mut [u64], book: &[u64], i: u64) -> u64 {
     let field = rest(minus(place, 1), fields::OPTION);
     let slot = over(minus(field, 1), 2);
     if place == 0 {
-        draw_options(dice, book)
+        let o = draw_options(dice, book);
+        if i > 0 && at(dice, 1) < 2 {
+            at(book, minus(plus(8, i), fields::LOAD))
+        } else {
+            o
+        }
     } else if i > fields::LOAD && at(dice, 1) < 2 {
         twin_number(
             at(book, minus(plus(8, i), fields::LOAD)),
@@ -209,7 +237,7 @@ fn draw_place(dice: &mut [u64], tally: &mut [u64], book: &mut [u64], i: u64) {
 }
 
 fn draw_loads(dice: &mut [u64], tally: &mut [u64], book: &mut [u64]) {
-    for i in 0..224 {
+    for i in 0..280 {
         draw_place(dice, tally, book, i);
     }
 }

@@ -3,6 +3,7 @@
 use crate::plain::at;
 use crate::plain::greater;
 use crate::plain::minus;
+use crate::plain::one_if;
 use crate::plain::over;
 use crate::plain::plus;
 use crate::plain::times;
@@ -54,6 +55,19 @@ pub fn used(book: &[u64]) -> u64 {
 pub fn step(book: &[u64], slot: u64) -> u64 {
     let parts = times(loads(book), fineness(book));
     greater(1, over(limit(book, slot), parts))
+}
+
+// 1 where a slot of the book has a step above 1.
+fn step_above(book: &[u64], slot: u64) -> u64 {
+    one_if(slot < slots(book) && step(book, slot) > 1)
+}
+
+// How many slots have a step above 1.
+pub fn steps_above(book: &[u64]) -> u64 {
+    plus(
+        plus(step_above(book, 0), step_above(book, 1)),
+        plus(step_above(book, 2), step_above(book, 3)),
+    )
 }
 
 // "R = S div L"

@@ -3,7 +3,7 @@ use crate::plain::at;
 use crate::plain::plus;
 use libc::STDOUT_FILENO;
 
-// Answers by their number: those of the planner, the quick planner and the sheet reader.
+// Answers by the number that is due: those of the planner, the quick planner and the sheet reader.
 pub const PLANNER: u64 = 0;
 
 pub const QUICK: u64 = 16;
@@ -37,6 +37,11 @@ pub const TIES: u64 = 65;
 
 // Damaged books with one fault and with two.
 pub const FAULTS: u64 = 66;
+
+// Books that fit the work area and have a step above 1 in a slot, and in two, by T, from the next on.
+pub const STEPPED: u64 = 71;
+
+pub const STEPPED_TWICE: u64 = 76;
 
 // Comparisons, and those that differ.
 pub const COMPARED: u64 = 69;
@@ -77,12 +82,44 @@ fn print_kinds(tally: &[u64]) {
     print_count(b"slots with limit 0: ", at(tally, LIMIT_ZERO));
     print_count(b"slots with step 1: ", at(tally, STEP_ONE));
     print_count(b"slots with a step above 1: ", at(tally, STEP_ABOVE_ONE));
+    print_count(
+        b"planned books of 1 slot, step above 1: ",
+        at(tally, plus(STEPPED, 1)),
+    );
+    print_count(
+        b"planned books of 2 slots, a step above 1: ",
+        at(tally, plus(STEPPED, 2)),
+    );
+    print_count(
+        b"planned books of 3 slots, a step above 1: ",
+        at(tally, plus(STEPPED, 3)),
+    );
+    print_count(
+        b"planned books of 4 slots, a step above 1: ",
+        at(tally, plus(STEPPED, 4)),
+    );
+    print_count(
+        b"planned books of 2 slots, two steps above 1: ",
+        at(tally, plus(STEPPED_TWICE, 2)),
+    );
+    print_count(
+        b"planned books of 3 slots, two steps above 1: ",
+        at(tally, plus(STEPPED_TWICE, 3)),
+    );
+    print_count(
+        b"planned books of 4 slots, two steps above 1: ",
+        at(tally, plus(STEPPED_TWICE, 4)),
+    );
+    print_loads(tally);
+}
+
+fn print_loads(tally: &[u64]) {
     print_count(b"loads with 1 option: ", at(tally, plus(LOADS, 1)));
     print_count(b"loads with 2 options: ", at(tally, plus(LOADS, 2)));
     print_count(b"loads with 3 options: ", at(tally, plus(LOADS, 3)));
     print_count(b"loads that are the one before again: ", at(tally, TWINS));
     print_count(
-        b"loads that cancel the one before: ",
+        b"loads with the Q of the one before turned about: ",
         at(tally, plus(TWINS, 1)),
     );
     print_count(b"pairs of P and Q: ", at(tally, PAIRS));

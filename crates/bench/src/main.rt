@@ -13,26 +13,27 @@ ghost use mathlib.Core.Path.{_≡_};
 ghost use lib.ListN.{length};
 
 // How many books are drawn.
-const TURNS: u64 = 10000;
+const TURNS: u64 = 3000;
 
-// Words for books of up to 65,536 cells, with something in them.
-fn work_area() -> [u64; 262144]
-    ensures { λ r. ⌜ 262144 ≡ length r ⌝ }
+// Words for books of up to 98,304 cells, with something in them.
+fn work_area() -> [u64; 393216]
+    ensures { λ r. ⌜ 393216 ≡ length r ⌝ }
 {
-    [77; 262144]
+    [77; 393216]
 }
 
-// The grid pairs of up to 256 choices.
-fn no_lists() -> [u64; 1280]
-    ensures { λ r. ⌜ 1280 ≡ length r ⌝ }
+// The grid pairs of up to 1,024 choices.
+fn no_lists() -> [u64; 5120]
+    ensures { λ r. ⌜ 5120 ≡ length r ⌝ }
 {
-    [0; 1280]
+    [0; 5120]
 }
 
-fn no_numbers() -> [u64; 232]
-    ensures { λ r. ⌜ 232 ≡ length r ⌝ }
+// The numbers of a book of up to ten loads.
+fn no_numbers() -> [u64; 288]
+    ensures { λ r. ⌜ 288 ≡ length r ⌝ }
 {
-    [0; 232]
+    [0; 288]
 }
 
 fn run_turn(
@@ -57,7 +58,7 @@ fn run(dice: &mut [u64], tally: &mut [u64], book: &mut [u64], lists: &mut [u64],
 
 fn main() {
     let mut dice = [20261115u64; 2];
-    let mut tally = [0u64; 80];
+    let mut tally = [0u64; 96];
     let mut book = no_numbers();
     let mut lists = no_lists();
     let mut work = work_area();

@@ -1,10 +1,11 @@
-// Arithmetic and access that cannot go wrong: a sum wraps, a difference stops at 0, a product of large numbers is 0, and what
-// lies outside a slice reads as 0. No value of the bench comes near such an edge; it spares each caller a proof.
+// Arithmetic and access that cannot go wrong: a sum wraps, a product of large numbers is 0, and what lies outside a slice reads as 0.
+// No value of the bench comes near these edges; they spare each caller a proof.
 
 pub fn plus(a: u64, b: u64) -> u64 {
     std::num::wrapping_add_u64(a, b)
 }
 
+// The difference, and 0 where it would be negative; callers count on that.
 pub fn minus(a: u64, b: u64) -> u64 {
     if a > b { a - b } else { 0 }
 }

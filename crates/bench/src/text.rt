@@ -125,7 +125,7 @@ fn wide(byte: u8) -> u64 {
     byte as u64
 }
 
-// A number with one more digit; what is no digit counts as one.
+// A number with one more digit; what is no digit is given some value.
 fn with_digit(number: u64, byte: u8) -> u64 {
     let value = if byte < b'A' {
         minus(wide(byte), 48)

@@ -47,6 +47,9 @@ fn main() -> ExitCode {
     }
     println!();
     grow(&mut bench);
+    if bench.different {
+        println!("\nDIFFERENT answers or sheets");
+    }
     ExitCode::from(u8::from(bench.different))
 }
 
@@ -82,13 +85,15 @@ struct Timing {
     answer: Answer,
     ours: Duration,
     rust: Duration,
+    /// Whether the two planners gave different answers or sheets in any round.
+    different: bool,
 }
 
 struct Bench {
     rounds: u32,
     /// The work area of both planners, large enough for every book and touched before any timing.
     work: Vec<u64>,
-    /// Whether the two planners ever gave different answers or sheets.
+    /// Whether any timing was of different answers or sheets.
     different: bool,
 }
 
@@ -107,25 +112,28 @@ impl Bench {
 
     /// Both planners in turn, round by round, so that a slow moment of the machine meets both.
     fn measure(&mut self, book: &[u8]) -> Timing {
-        let (mut sheet, mut other_sheet) = ([0; SHEET], [0; SHEET]);
         let mut timing = Timing {
             answer: Answer::default(),
             ours: Duration::MAX,
             rust: Duration::MAX,
+            different: false,
         };
         let start = Instant::now();
         let mut rounds = 0;
         while rounds < self.rounds || start.elapsed() < LEAST {
             rounds += 1;
+            // Cleared in every round, so that no sheet of an earlier one can pass.
+            let (mut sheet, mut other_sheet) = ([0; SHEET], [0; SHEET]);
             let (answer, ours) = self.time(plan, book, &mut sheet);
             let (other, rust) = self.time(table::plan, book, &mut other_sheet);
-            self.different |= answer != other || sheet != other_sheet;
             timing = Timing {
                 answer,
                 ours: timing.ours.min(ours),
                 rust: timing.rust.min(rust),
+                different: timing.different || answer != other || sheet != other_sheet,
             };
         }
+        self.different |= timing.different;
         timing
     }
 
@@ -137,7 +145,8 @@ impl Bench {
 
     /// Measures and prints. A spent book has no trials in its answer, so its budget stands for them.
     fn row(&mut self, name: &str, book: &[u8]) {
-        let Timing { answer, ours, rust } = self.measure(book);
+        let timing = self.measure(book);
+        let Timing { answer, ours, rust, .. } = timing;
         let case = Case::new(book.to_vec());
         let cells = case.cells();
         let trials = match answer.number {
@@ -152,7 +161,7 @@ impl Bench {
             ours.as_secs_f64() / rust.as_secs_f64(),
             nanoseconds / trials as f64,
             nanoseconds / cells as f64,
-            if self.different { "  DIFFERENT" } else { "" }
+            if timing.different { "  DIFFERENT" } else { "" }
         );
     }
 }

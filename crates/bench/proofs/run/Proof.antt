@@ -10,7 +10,7 @@ abbrev Inv-loop : tie.InvT-loop
 Inv-loop dice₀ tally₀ book₀ lists₀ work₀ turn₀ dice tally book lists work turn = (length dice ≡ length dice₀) × (length tally ≡ length tally₀) × (length book ≡ length book₀) × (length lists ≡ length lists₀) × (length work ≡ length work₀)
 
 abbrev μ-loop : tie.MeasureT-loop
-μ-loop dice₀ tally₀ book₀ lists₀ work₀ turn₀ dice tally book lists work turn = 10000 - turn
+μ-loop dice₀ tally₀ book₀ lists₀ work₀ turn₀ dice tally book lists work turn = 3000 - turn
 
 loop-holds : tie.Need-loop-holds Inv-loop μ-loop
 loop-holds c = search needs

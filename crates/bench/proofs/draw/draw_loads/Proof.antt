@@ -10,7 +10,7 @@ abbrev Inv-loop : tie.InvT-loop
 Inv-loop dice₀ tally₀ book₀ i₀ dice tally book i = (length dice ≡ length dice₀) × (length tally ≡ length tally₀) × (length book ≡ length book₀)
 
 abbrev μ-loop : tie.MeasureT-loop
-μ-loop dice₀ tally₀ book₀ i₀ dice tally book i = 224 - i
+μ-loop dice₀ tally₀ book₀ i₀ dice tally book i = 280 - i
 
 loop-holds : tie.Need-loop-holds Inv-loop μ-loop
 loop-holds c = search needs
