@@ -51,9 +51,11 @@ fn draw_tight(dice: &mut [u64], book: &[u64]) -> u64 {
     }
 }
 
-// A multiple of N × d and a little more, so that R is N × d.
+// A multiple of N × d and a little more, so that R is N × d. The steps are small in every other draw, as there the spread tells most.
 fn draw_multiple(dice: &mut [u64], parts: u64) -> u64 {
-    let step = plus(1, roll(dice, lesser(200, minus(over(65535, parts), 1))));
+    let small = roll(dice, 2) == 0;
+    let most = if small { 4 } else { 200 };
+    let step = plus(1, roll(dice, lesser(most, minus(over(65535, parts), 1))));
     plus(times(parts, step), roll(dice, lesser(step, parts)))
 }
 
