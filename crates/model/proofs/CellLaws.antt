@@ -34,9 +34,9 @@ join-upto : (n : ℕ) (f g : ℕ → Option Key) → joinUpto n (λ i. join (f i
 join-upto zero f g = refl
 join-upto (suc n) f g = ap (λ x. join x (join (f n) (g n))) (join-upto n f g) ∙ swap (joinUpto n f) (joinUpto n g) (f n) (g n)
 
-upto-none : (n : ℕ) → joinUpto n (λ i. none) ≡ none
-upto-none zero = refl
-upto-none (suc n) = join-none (joinUpto n (λ i. none)) ∙ upto-none n
+pub upto-none : (n : ℕ) (f : ℕ → Option Key) → ((m : ℕ) → m < n → f m ≡ none) → joinUpto n f ≡ none
+upto-none zero f h = refl
+upto-none (suc n) f h = ap₂ join (upto-none n f (λ m l. h m (omega arith))) (h n (omega arith))
 
 -- x at cell j alone
 abbrev pub only : ℕ → Option Key → ℕ → Option Key
@@ -68,7 +68,7 @@ where-cons p c cs = go (p c)
 -- the best key is the best of the cells' best keys
 pub best-by-cell : (n : ℕ) (p : Choice → Bool) (cell : Choice → ℕ) (cs : List Choice) → Every (λ c. T (p c) → cell c < n) cs
     → bestWhere p cs ≡ joinUpto n (λ i. bestWhere (λ c. p c && eqb (cell c) i) cs)
-best-by-cell n p cell [] h = sym (upto-none n)
+best-by-cell n p cell [] h = sym (upto-none n (λ i. none) (λ m l. refl))
 best-by-cell n p cell (c ∷ cs) h =
     where-cons p c cs
     ∙ ap₂ join (one (p c) (h .0)) (best-by-cell n p cell cs (h .1))
@@ -78,7 +78,7 @@ best-by-cell n p cell (c ∷ cs) h =
     one : (t : Bool) → (T t → cell c < n)
         → cond t (some (keyOf c)) none ≡ joinUpto n (λ i. cond (t && eqb (cell c) i) (some (keyOf c)) none)
     one true b = sym (only-upto n (cell c) (some (keyOf c)) (b tt))
-    one false b = sym (upto-none n)
+    one false b = sym (upto-none n (λ i. none) (λ m l. refl))
 
 -- a cell has a best exactly when some choice has it
 abbrev pub isSome : Option Key → Bool

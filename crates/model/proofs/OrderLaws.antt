@@ -25,7 +25,7 @@ pub data Versus (y x : Key) : Bool → Type 0 where
   less : y .worth < x .worth → Versus y x false
   tie-more : x .worth ≡ y .worth → x .code ≤ y .code → Versus y x false
 
-lt-of-not : {a b : ℕ} → b ≤ a → (a ≡ b → ⊥) → b < a
+pub lt-of-not : {a b : ℕ} → b ≤ a → (a ≡ b → ⊥) → b < a
 lt-of-not h n = omega arith
 
 pub versus : (y x : Key) → Versus y x (beats y x)

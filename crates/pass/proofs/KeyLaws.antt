@@ -140,7 +140,3 @@ pub upto-same : (n : ℕ) (f g : ℕ → Option Key) (x : Option Key) → ((m : 
 unfolding raiseUpto
 upto-same zero f g x h = refl
 upto-same (suc n) f g x h = ap₂ raise (upto-same n f g x (λ m l. h m (omega arith))) (h n (omega arith))
-
-pub upto-none : (n : ℕ) (f : ℕ → Option Key) → ((m : ℕ) → m < n → f m ≡ none) → joinUpto n f ≡ none
-upto-none zero f h = refl
-upto-none (suc n) f h = ap₂ join (upto-none n f (λ m l. h m (omega arith))) (h n (omega arith))

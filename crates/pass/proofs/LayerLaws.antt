@@ -14,7 +14,7 @@ use lib.Dec.{leb, ltb}
 use lib.ListN.{getD, set, length, length-set}
 use lib.Seq.{getD-set-same, getD-set-other}
 use Rattle.model.proofs.OrderLaws.{Key, join, shift?}
-use Rattle.model.proofs.CellLaws.{joinUpto, isSome, countUpto}
+use Rattle.model.proofs.CellLaws.{joinUpto, isSome, countUpto, upto-none}
 use Rattle.model.proofs.RowLaws.{Bounded}
 use Rattle.table.specs.Table.{cellAt, keyOf, Rows, reached}
 use Rattle.model.proofs.IntegerLaws.{split}
@@ -24,7 +24,7 @@ use Rattle.pass.specs.declared.LoadMoves.{LoadMoves}
 use Rattle.pass.specs.declared.Stretch.{Stretch}
 use Rattle.pass.specs.declared.Made.{Made}
 use Rattle.pass.specs.Pass.{heldIn, held, tried, sourceOf, moveOf, offerOf, raiseUpto, GridFits, LoadRoom, Offers, Spans, Opened, RowKeys, RowMade, Idle, Reaches, countRows, LayerMade, raisedRows}
-use Rattle.pass.proofs.KeyLaws.{shift-from, shift-below, raise-upto, upto-split, upto-same, upto-none}
+use Rattle.pass.proofs.KeyLaws.{shift-from, shift-below, raise-upto, upto-split, upto-same}
 use Rattle.pass.proofs.SourceLaws.{row-end, next-row, held-in, held-low, held-high, source-out, source-column, cond-bounded, Same, offer-same, room-same, rows-same}
 
 -- ---- counts

@@ -11,13 +11,12 @@ use borrow.Author.Tests.{eq-eqb, ne-eqb, lt-ltb, le-ltb, ltb-true, ltb-false}
 use lib.Dec.{ltb}
 use lib.ListN.{getD}
 use Rattle.model.specs.Grid.{Slot}
-use Rattle.model.proofs.OrderLaws.{Key, join, join-none, join-assoc}
-use Rattle.model.proofs.CellLaws.{joinUpto}
+use Rattle.model.proofs.OrderLaws.{Key, join, join-none, join-assoc, lt-of-not}
+use Rattle.model.proofs.CellLaws.{joinUpto, upto-none}
 use Rattle.model.proofs.IndexLaws.{gridFrom}
 use Rattle.model.proofs.RecurrenceLaws.{admitsAll}
 use Rattle.table.specs.declared.Cell.{Cell}
 use Rattle.table.specs.Table.{cellAt, keyIf, keyOf}
-use Rattle.pass.proofs.KeyLaws.{upto-none}
 use Rattle.pass.proofs.SourceLaws.{held-in, held-low, held-high}
 use Rattle.scan.specs.Scan.{Better, admittedIn}
 
@@ -37,9 +36,6 @@ join-tie-more x y e h = simp (le-ltb (x .worth) (y .worth) (omega arith), eq-eqb
 
 no-true : true ≡ false → ⊥
 no-true e = let z : _≡_ {A = ℕ} 0 1 = cc in omega arith
-
-lt-of-not : {a b : ℕ} → a ≤ b → (a ≡ b → ⊥) → a < b
-lt-of-not h n = omega arith
 
 module _ (best c : Cell) where
   key-zero : c .worth ≡ 0 → keyOf c ≡ none
@@ -99,7 +95,7 @@ module _ (best c : Cell) where
   pub better-worth : (c .worth ≡ best .worth → ⊥) → Better best c (ltb (best .worth) (c .worth))
   better-worth n = record {
     yes-better = λ z. taken-more (ltb-true (best .worth) (c .worth) z);
-    no-better = λ z. kept-less (lt-of-not (ltb-false (best .worth) (c .worth) z) n);
+    no-better = λ z. kept-less (lt-of-not (ltb-false (best .worth) (c .worth) z) (λ e. n (sym e)));
   }
 
 -- what is not better leaves the best, admitted or not

@@ -72,6 +72,9 @@ choice-from (vs ∷ loads) f i h = (
       subst (λ j. Mem (f j) (getD loads k [])) (suc-across i k) (h (suc k) (omega arith))),
 )
 
+pub load-labelled : {b : Problem} → ValidBook b → (k : ℕ) → k < length (b .loads) → Labelled (getD (b .loads) k [])
+load-labelled {b} valid k l = every-at Labelled (b .loads) [] (valid .loads .labels) k l
+
 module _ (b : Problem) (picks : List ℕ) (valid : ValidBook b) (picked : Picked b picks) where
   pub picked-choice : IsChoice (b .loads) (choiceOf b picks)
   unfolding choiceOf
@@ -82,11 +85,8 @@ module _ (b : Problem) (picks : List ℕ) (valid : ValidBook b) (picked : Picked
   pub picks-small : (k : ℕ) → Every SettingSmall (picksUpto b picks k)
   picks-small k = every-image SettingSmall (pickOf b picks) (upto k) (λ i. setting-small (getD (b .loads) i []) (loads-small b valid i) (getD picks i 0))
 
-  labelled : (k : ℕ) → k < length (b .loads) → Labelled (getD (b .loads) k [])
-  labelled k l = every-at Labelled (b .loads) [] (valid .loads .labels) k l
-
   pub pick-few : (k : ℕ) → k < length (b .loads) → getD picks k 0 < 4
-  pick-few k l = omega (arith, picked k l, labelled k l .few)
+  pick-few k l = omega (arith, picked k l, load-labelled valid k l .few)
 
   -- a setting's number is its place
   pick-number : (k : ℕ) → k < length (b .loads) → pickOf b picks k .number ≡ getD picks k 0
@@ -95,7 +95,7 @@ module _ (b : Problem) (picks : List ℕ) (valid : ValidBook b) (picked : Picked
       let vs = getD (b .loads) k [] in
       let t = length (b .limits) in
       let kept : settingsIn t (loadValue vs) ≡ vs
-      = value-kept t vs (valid .slots-few) (labelled k l)
+      = value-kept t vs (valid .slots-few) (load-labelled valid k l)
       (every-at (Every (λ v. length (v .powers) ≡ t)) (b .loads) [] (valid .loads .powers) k l)
       (every-at (Every SettingSmall) (b .loads) [] (valid .loads .small) k l) in
       ap (λ us. settingOf us (getD picks k 0) .number) (sym kept)

@@ -2,13 +2,13 @@
 -- Assumes nothing.
 use Prim.Native.Nat.{ℕ, zero, suc, _+_, _-_, _*_, _<_, _≤_}
 use mathlib.Core.Path.{_≡_, refl, sym, ap, ap₂, _∙_}
-use mathlib.Core.List.{List, [], _∷_}
+use mathlib.Core.List.{List}
 use mathlib.Core.Bool.{Bool, cond}
 use native.Mathlib.Numerals.{add-one}
 use lib.Dec.{ltb}
 use native.Mathlib.Omega.{arith}
-use lib.ListN.{length, getD, set, length-set}
-use lib.Seq.{getD-set-same, getD-set-other}
+use lib.ListN.{length, set, length-set}
+use lib.Seq.{getD-set-same, getD-set-other, set-getD}
 use borrow.Author.Tests.{eq-eqb, ne-eqb, lt-ltb, le-ltb, le-leb, lt-leb}
 use mathlib.Core.Logic.{⊎-elim}
 use Rattle.model.proofs.IntegerLaws.{split}
@@ -55,14 +55,9 @@ get-other ws x y c n =
     ∙ getD-set-other ws (2 * x) (2 * y + 1) (c .worth) 0 (omega arith))
 
 -- what a cell holds, stored there again
-set-own : (ws : List ℕ) (i : ℕ) → set ws i (getD ws i 0) ≡ ws
-set-own [] i = refl
-set-own (w ∷ ws) zero = refl
-set-own (w ∷ ws) (suc i) = ap (λ l. w ∷ l) (set-own ws i)
-
 pub put-own : (ws : List ℕ) (x : ℕ) → putAt ws x (cellAt ws x) ≡ ws
 unfolding cellAt putAt
-put-own ws x = rw (set-own ws (2 * x), set-own ws (2 * x + 1))
+put-own ws x = rw (set-getD ws (2 * x) 0, set-getD ws (2 * x + 1) 0)
 
 -- an empty cell changes nothing
 pub offered-none : (ws : List ℕ) (from to gain digit : ℕ) → cellAt ws from .worth ≡ 0 → ws ≡ offeredAt ws from to gain digit
