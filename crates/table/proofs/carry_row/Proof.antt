@@ -32,7 +32,9 @@ same-length : tie.Need-same-length
 same-length c = search needs
 
 returns : tie.Need-returns
-returns c = search carried
+returns c =
+    carried _ _ _ _ _ (c .before .before .before .before .before .before .before .before .before .before .before .before .before .pre .1 .0) (c .before .before .before .before .before .before .before .before .before .before .copy-row .ensures) (c .before .before .before .before .before .before .clear .ensures)
+    (c .before .before .clear2 .ensures)
 
 pub carry-row-spec : {M : Type 1} → statement M
 carry-row-spec =
