@@ -7,11 +7,11 @@ use pass::SettingMove;
 ghost use mathlib.Core.Path.{_≡_};
 ghost use mathlib.Core.List.{[]};
 ghost use Prim.Native.Nat.{ℕ, _*_, _^_, _<_, _≤_};
-ghost use lib.IntN.{ℤ, natAbs};
 ghost use lib.ListN.{getD};
 ghost use Rattle.model.specs.Grid.{stepFor, slotsOf, floorDiv};
 ghost use Rattle.model.specs.Trials.{cells};
-ghost use Rattle.model.specs.Values.{raised, settingOf, Held, problemOf};
+ghost use Rattle.model.specs.Values.{raised, lowered, settingOf, Held, problemOf};
+ghost use Rattle.model.specs.Rounding.{gridValue};
 ghost use Rattle.search.specs.Search.{movesOf, SlotsIn, MoveIs, LoadIs};
 ghost use Rattle.layout.specs.Layout.{Capped, Laid, LoadHeld, Extended, LayoutIs};
 
@@ -96,11 +96,12 @@ pub fn cells_of(book: Book, slots: Slots) -> usize
     product
 }
 
-// The grid value of a reactive power, by arithmetic that asks for no sign: `power` is Q + 32,768, and the result is the grid value
-// + 32,768.
-pub fn grid_value(power: u64, step: u64) -> u64
+// The grid value of a reactive power, by arithmetic that asks for no sign: `power` is Q + 32,768, so that 32,768 × (L - 1) more make
+// Q + 32,768 × L, and the quotient is the grid value + 32,768. The 32,768 are taken off where the columns move (`down`).
+fn grid_value(power: u64, step: u64) -> u64
     requires { ⌜ (power ≤ 65536) × (1 ≤ step) × (step ≤ 65535) ⌝ }
-    ensures { λ r. ⌜ ((q : ℤ) → natAbs q ≤ 32768 → power ≡ raised q → r ≡ raised (floorDiv q step)) ⌝ }
+    ensures { λ r. ⌜ r ≡ raised (gridValue (lowered power) step) ⌝ }
+    ensures { λ r. ⌜ gridValue (lowered power) step ≡ floorDiv (lowered power) step ⌝ }
 {
     (power + 32768 * (step - 1)) / step
 }

@@ -1,7 +1,8 @@
--- Document 01's starred cases, as one table of facts about the definitions, with one statement covering it ("Trials at the bench").
+-- Document 01's starred cases, and the ends of M-102's range, as one table of facts about the definitions, with one statement covering it
+-- ("Trials at the bench").
 -- Assumes nothing.
 use mathlib.Core.Path.{_≡_, refl}
-use mathlib.Core.Bool.{Bool, true, false}
+use mathlib.Core.Bool.{Bool, true, false, _&&_}
 use mathlib.Core.List.{List, [], _∷_}
 use Prim.Native.Nat.{ℕ}
 use Prim.Native.String.{String, [] as ε, _∷_ as _⸬_}
@@ -18,6 +19,7 @@ use Rattle.model.specs.Sheet.{numbersOf, firstLine, slotLine, slotLines,
 use Rattle.model.specs.Calls.{sizeRules, fittingBook, planSheet, plannerResult}
 use Rattle.model.specs.Quick.{optionOne, sizeOf, takeIfFits, quickChoice, quickSheet, quickResult}
 use Rattle.model.specs.Program.{refusalLine, printed, programOutput}
+use Rattle.model.specs.Rounding.{gridValue}
 
 abbrev pub bytesOf : String → List ℕ
 bytesOf ε = []
@@ -33,7 +35,7 @@ pub data Case : Type 0 where
   reads : String → Case
   -- N, d and S have the step L
   steps : ℕ → ℕ → ℕ → ℕ → Case
-  -- a power and a step L have a grid value
+  -- a power and a step L have a grid value, by document 01's sentence and by M-102's arithmetic
   rounds : ℤ → ℕ → ℤ → Case
 
 abbrev pub isDone : {A : Type 0} → Result A → Bool
@@ -45,7 +47,7 @@ holds (prints book out) = sameLists eqb (programOutput (bytesOf book)) (bytesOf 
 holds (quickPrints book out) = sameLists eqb (printed (quickResult (bytesOf book) 4096)) (bytesOf out)
 holds (reads book) = isDone (readBook (bytesOf book))
 holds (steps n d s l) = eqb (stepFor n d s) l
-holds (rounds x l g) = sameℤ (floorDiv x l) g
+holds (rounds x l g) = sameℤ (floorDiv x l) g && sameℤ (gridValue x l) g
 
 unfoldable pub bench : List Case
 bench =
@@ -62,6 +64,10 @@ bench =
     ∷ rounds (negℤ (pos 1)) 50 (negℤ (pos 1))
     ∷ rounds (negℤ (pos 50)) 50 (negℤ (pos 1))
     ∷ rounds (negℤ (pos 51)) 50 (negℤ (pos 2))
+    ∷ rounds (negℤ (pos 32768)) 1 (negℤ (pos 32768))
+    ∷ rounds (negℤ (pos 32768)) 65535 (negℤ (pos 1))
+    ∷ rounds (pos 32767) 1 (pos 32767)
+    ∷ rounds (pos 32767) 65535 (pos 0)
     ∷ prints "01010201000000640064\n0201000300630000\n0201000300630000\n"
     "0400000006000000060101\n05000000C6000000000064\n"
     ∷ prints "01010201000000640064\n0201000300640000\n0201000300640000\n"

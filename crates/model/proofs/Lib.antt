@@ -22,5 +22,6 @@ pub mod CodeLaws
 pub mod QuickLaws
 pub mod DemandLaws
 pub mod ValueLaws
+pub mod RoundingLaws
 pub mod ReadingLaws
 pub mod Bench

@@ -2,10 +2,11 @@
 -- Assumes nothing.
 use mathlib.Core.Path.{_≡_, refl, sym, ap, _∙_}
 use mathlib.Core.List.{List, [], _∷_, map, map-map}
+use mathlib.Core.Logic.{_⊎_, inl, inr}
 use Prim.Native.Nat.{ℕ, zero, suc, _+_, _-_, _*_, _/_, _%_, _<_, _≤_}
 use native.Mathlib.Nat.{zero-add, le-of-suc-le-suc}
 use native.Mathlib.Omega.{arith}
-use lib.IntN.{ℤ, pos, negsuc, natAbs, subℕ}
+use lib.IntN.{ℤ, pos, negsuc, natAbs}
 use lib.ListN.{length, getD, take}
 use Rattle.model.specs.declared.Load.{Load}
 use Rattle.model.specs.declared.Book.{Book}
@@ -14,17 +15,28 @@ use Rattle.model.specs.Refusals.{done}
 use Rattle.model.specs.Book.{Power, noPower, Settings, Problem, readBook}
 use Rattle.model.specs.Choice.{powerIn}
 use Rattle.model.specs.Quick.{noSetting}
-use Rattle.model.specs.Values.{Held, raised, settingOf, powerOf, loadValue, bookValue, settingIn, settingsIn, problemOf}
+use Rattle.model.specs.Values.{Held, raised, lowered, settingOf, powerOf, loadValue, bookValue, settingIn, settingsIn, problemOf}
 use Rattle.model.specs.Valid.{Numbered, Labelled, SettingSmall, ValidBook}
 use Rattle.model.proofs.ListLaws.{every-at}
 use Rattle.model.proofs.UptoLaws.{suc-across, getD-upto, take-upto, upto-is}
-use Rattle.model.proofs.IntegerLaws.{sub-pos, sub-neg}
+use Rattle.model.proofs.IntegerLaws.{split, sub-pos, sub-neg, abs-sub}
 use Rattle.model.proofs.ReaderLaws.{book-valid}
 
-pub raised-back : (q : ℤ) → natAbs q ≤ 32768 → subℕ (raised q) 32768 ≡ q
+pub raised-back : (q : ℤ) → natAbs q ≤ 32768 → lowered (raised q) ≡ q
 unfolding raised
 raised-back (pos n) h = sub-pos (n + 32768) 32768 (omega arith) ∙ ap {B = ℤ} pos (omega arith)
 raised-back (negsuc n) h = sub-neg (32767 - n) 32768 (omega arith) ∙ ap {B = ℤ} negsuc (omega arith)
+
+pub lowered-back : (n : ℕ) → raised (lowered n) ≡ n
+unfolding raised
+lowered-back n = go (split n 32768)
+  where
+    go : (n < 32768) ⊎ (32768 ≤ n) → raised (lowered n) ≡ n
+    go (inl x) = ap raised (sub-neg n 32768 x) ∙ (omega arith)
+    go (inr x) = ap raised (sub-pos n 32768 x) ∙ (omega arith)
+
+pub lowered-small : (n : ℕ) → n ≤ 65536 → natAbs (lowered n) ≤ 32768
+lowered-small n h = omega (arith, abs-sub n 32768)
 
 pub numbered-at : (i : ℕ) (vs : Settings) → Numbered i vs → (k : ℕ) → k < length vs → i + k ≡ getD vs k noSetting .number
 numbered-at i [] h k l = absurd (omega arith)
@@ -41,7 +53,7 @@ power-at vs c s h =
 
 -- the power that a value holds there
 abbrev heldPower : Load → ℕ → ℕ → Power
-heldPower l c s = record { p = getD (l .actives) (4 * c + s) 0; q = subℕ (getD (l .reactives) (4 * c + s) 0) 32768 }
+heldPower l c s = record { p = getD (l .actives) (4 * c + s) 0; q = lowered (getD (l .reactives) (4 * c + s) 0) }
 
 module _ (t : ℕ) (vs : Settings) (four : t ≤ 4) (labels : Labelled vs) (powers : Every (λ v. length (v .powers) ≡ t) vs) (small : Every SettingSmall vs) where
   power-kept : (c s : ℕ) → c < length vs → s < t → heldPower (loadValue vs) c s ≡ powerIn s (settingOf vs c)
@@ -51,8 +63,8 @@ module _ (t : ℕ) (vs : Settings) (four : t ≤ 4) (labels : Labelled vs) (powe
       let at : powerOf vs (4 * c + s) ≡ powerIn s (settingOf vs c) = power-at vs c s (omega arith) in
       let p-at : getD (map (λ i. powerOf vs i .p) (upto 16)) (4 * c + s) 0 ≡ powerIn s (settingOf vs c) .p
       = getD-upto (λ i. powerOf vs i .p) 16 (4 * c + s) 0 place ∙ ap (λ (x : Power). x .p) at in
-      let q-at : subℕ (getD (map (λ i. raised (powerOf vs i .q)) (upto 16)) (4 * c + s) 0) 32768 ≡ powerIn s (settingOf vs c) .q
-      = ap (λ n. subℕ n 32768) (getD-upto (λ i. raised (powerOf vs i .q)) 16 (4 * c + s) 0 place ∙ ap (λ (x : Power). raised (x .q)) at)
+      let q-at : lowered (getD (map (λ i. raised (powerOf vs i .q)) (upto 16)) (4 * c + s) 0) ≡ powerIn s (settingOf vs c) .q
+      = ap lowered (getD-upto (λ i. raised (powerOf vs i .q)) 16 (4 * c + s) 0 place ∙ ap (λ (x : Power). raised (x .q)) at)
       ∙ raised-back (powerIn s (settingOf vs c) .q) (every-at SettingSmall vs noSetting small c h .reactive s) in
       λ i. record { p = p-at i; q = q-at i }
 

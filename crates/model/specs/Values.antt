@@ -19,6 +19,10 @@ unfoldable pub raised : ℤ → ℕ
 raised (pos n) = n + 32768
 raised (negsuc n) = 32767 - n
 
+-- the Q that is held as n
+abbrev pub lowered : ℕ → ℤ
+lowered n = subℕ n 32768
+
 -- setting c of a load
 abbrev pub settingOf : Settings → ℕ → Setting
 settingOf vs c = getD vs c noSetting
@@ -77,13 +81,13 @@ Picked b picks = (k : ℕ) → k < length (b .loads) → getD picks k 0 < length
 
 -- ---- the settings and the book that a value holds: nothing of a book that was read is lost (proofs/ValueLaws, `book-kept`)
 
--- setting c of a load's value, in t slots; Q is the reactive entry less 32,768
+-- setting c of a load's value, in t slots
 abbrev pub settingIn : ℕ → Load → ℕ → Setting
 settingIn t l c =
     record {
       number = c;
       worth = getD (l .worths) c 0;
-      powers = map (λ s. record { p = getD (l .actives) (4 * c + s) 0; q = subℕ (getD (l .reactives) (4 * c + s) 0) 32768 }) (upto t);
+      powers = map (λ s. record { p = getD (l .actives) (4 * c + s) 0; q = lowered (getD (l .reactives) (4 * c + s) 0) }) (upto t);
     }
 
 abbrev pub settingsIn : ℕ → Load → Settings

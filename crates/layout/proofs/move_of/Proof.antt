@@ -96,7 +96,7 @@ more c h l =
     let m = c .before .before .before .before .before .before .before .loop in
     let v = settingOf (h .settings) (s .args .c) in
     moved-more (l .slots) v (load-setting (s .args .t1) h (s .args .c) (m .inv .2)) (m .t - 1) (omega (arith, l .count-is)) (l .few) _ _ _ _ (m .back) (m .up) (m .down) (m .active)
-    (digits-at (s .args .t1) h (s .args .c) (m .inv .2) (m .t - 1) (omega arith) (s .args .t5) _ (c .grid-value .result) (l .each (m .t - 1) (omega (arith, l .count-is))) (c .grid-value .ensures))
+    (digits-at (s .args .t1) h (s .args .c) (m .inv .2) (m .t - 1) (omega arith) (s .args .t5) _ (c .grid-value .result) (l .each (m .t - 1) (omega (arith, l .count-is))) (c .grid-value .ensures .0) (c .grid-value .ensures .1))
     (back-one (λ t. Moved (l .slots) v t (m .back) (m .up) (m .down) (m .active)) (m .t) (c .before .before .before .before .before .before .loop-test .taken) (m .inv .4 h l))
 
 fits : (c : tie.After-grid-value Inv-loop μ-loop)
