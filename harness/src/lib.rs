@@ -1,4 +1,4 @@
-//! Safe calls to the archive `libjadeshuttle.a`, and the parts that the programs `differ` and `speed` are made of.
+//! Safe calls to the archive `libjadeshuttle.a`, and the parts that the programs `differ`, `speed` and `signs` are made of.
 
 pub mod call;
 pub mod damage;

@@ -1,0 +1,107 @@
+//! Plans a sample of books for the instructions of each call to be counted: `signs plus`, or `signs minus` for the same
+//! books with every Q turned about. With a budget of 0 a call ends (12) once all grid values are known, before any search.
+
+use harness::draw;
+use harness::plan;
+use harness::random::Random;
+use harness::reference::book::{Book, Level, Load};
+use harness::reference::{grid, MOST_CELLS};
+use std::collections::BTreeSet;
+use std::process::ExitCode;
+
+const SEED: u64 = 1;
+const BOOKS: usize = 120;
+
+/// No sheet is longer.
+const SHEET: usize = 159;
+
+/// N and T of the sample's books. With d = 1 their tables can be small enough for any step.
+const SHAPES: [(usize, usize); 6] = [(1, 4), (1, 3), (2, 3), (3, 2), (6, 2), (24, 1)];
+
+fn main() -> ExitCode {
+    let arguments: Vec<String> = std::env::args().skip(1).collect();
+    let words: Vec<&str> = arguments.iter().map(String::as_str).collect();
+    let sign = match words.as_slice() {
+        ["plus"] => 1,
+        ["minus"] => -1,
+        _ => {
+            eprintln!("usage: signs plus | signs minus");
+            return ExitCode::from(2);
+        }
+    };
+    let random = &mut Random::new(SEED);
+    let books: Vec<Book> = (0..BOOKS)
+        .map(|i| book(random, SHAPES[i % SHAPES.len()], sign))
+        .collect();
+    println!("{}", size(&books));
+    ExitCode::from(u8::from(!books.iter().all(spent)))
+}
+
+/// A book with a budget of 0 whose every Q has the sign.
+fn book(random: &mut Random, (loads, slots): (usize, usize), sign: i64) -> Book {
+    let mut book = Book {
+        fineness: 1,
+        budget: 0,
+        limits: limits(random, slots),
+        loads: vec![Load { levels: Vec::new() }; loads],
+    };
+    while grid::cells(&grid::slots(&book)) > MOST_CELLS {
+        book.limits = limits(random, slots);
+    }
+    let steps: Vec<i64> = grid::slots(&book).iter().map(|slot| slot.step).collect();
+    for load in &mut book.loads {
+        let levels = 1 + random.below(3);
+        load.levels = (0..levels).map(|_| level(random, &steps, sign)).collect();
+    }
+    book
+}
+
+/// Limits from 1 to 65,535, each of the two ends now and then: with one load and d = 1 the limit is the step.
+fn limits(random: &mut Random, slots: usize) -> Vec<i64> {
+    let limit = |_| {
+        let largest = random.pick(&[20, 1_000, 65_535]);
+        let any = random.within(1..=largest);
+        random.pick(&[any, any, any, 1, 65_535])
+    };
+    (0..slots).map(limit).collect()
+}
+
+fn level(random: &mut Random, steps: &[i64], sign: i64) -> Level {
+    let power = |&step: &i64| {
+        let q = reactive(random, step);
+        (random.within(q..=65_535), sign * q)
+    };
+    let powers = steps.iter().map(power).collect();
+    Level { worth: 1, powers }
+}
+
+/// A Q above 0: any, or at or beside a multiple of the step, where the grid value of -Q changes.
+fn reactive(random: &mut Random, step: i64) -> i64 {
+    let any = random.within(1..=32_767);
+    let multiple = any / step * step;
+    let q = random.pick(&[any, any, multiple - 1, multiple, multiple + 1, 1, 32_767]);
+    q.clamp(1, 32_767)
+}
+
+/// How many books, Q and steps the sample has.
+fn size(books: &[Book]) -> String {
+    let levels = books.iter().flat_map(|book| &book.loads).flat_map(|load| &load.levels);
+    let powers: usize = levels.map(|level| level.powers.len()).sum();
+    let steps: BTreeSet<i64> = books.iter().flat_map(grid::slots).map(|slot| slot.step).collect();
+    let (first, last) = (steps.first().unwrap_or(&0), steps.last().unwrap_or(&0));
+    format!(
+        "{} books, {powers} Q, {} steps from {first} to {last}",
+        books.len(),
+        steps.len()
+    )
+}
+
+/// Whether a call says that the budget is spent.
+fn spent(book: &Book) -> bool {
+    let words = 4 * grid::cells(&grid::slots(book)) as usize;
+    let answer = plan(&draw::text(book), &mut vec![0; words], &mut [0; SHEET]);
+    if answer.number != 12 {
+        println!("refusal 12 was due, and the answer is {answer:?}");
+    }
+    answer.number == 12
+}
