@@ -15,7 +15,6 @@ use Rattle.model.specs.Grid.{Slot, floorDiv}
 use Rattle.model.specs.Trials.{gridTop}
 use Rattle.model.specs.Valid.{SettingSmall}
 use Rattle.model.specs.Values.{raised, lowered, settingOf, loadValue}
-use Rattle.model.specs.Rounding.{gridValue}
 use Rattle.model.proofs.UptoLaws.{getD-upto}
 use Rattle.model.proofs.ValueLaws.{numbered-at, raised-back}
 use Rattle.model.proofs.RoundingLaws.{floor-small}
@@ -176,17 +175,15 @@ module _ (x : Load) (h : LoadHeld x) where
 
       -- the numbers of setting c in slot t
       pub digits-at : (v : Slots) (s : Slot) (b : ℕ) → SlotAt v t s
-          → (b ≡ raised (gridValue (lowered (getD (x .reactives) (4 * c + t) 0)) (getD (v .steps) t 0)))
-          → (gridValue (lowered (getD (x .reactives) (4 * c + t) 0)) (getD (v .steps) t 0) ≡ floorDiv (lowered (getD (x .reactives) (4 * c + t) 0)) (getD (v .steps) t 0))
+          → (b ≡ raised (floorDiv (lowered (getD (x .reactives) (4 * c + t) 0)) (getD (v .steps) t 0)))
           → Digits s (settingOf (h .settings) c) (getD (v .tops) t 0) (getD (v .widths) t 0) (getD (x .actives) (4 * c + t) 0 / getD (v .steps) t 0) b
-      digits-at v s b e f g =
+      digits-at v s b e f =
           let z = settingOf (h .settings) c in
           record {
             top-is = e .top-is;
             wide-is = e .width-is;
             active-is = ap₂ (λ m n. m / n) load-p (e .step-is) ∙ ap (λ i. powerIn i z .p / s .step) (sym (e .place-is));
             reactive-is = f
-                ∙ ap raised g
                 ∙ ap (λ q. raised (floorDiv q (getD (v .steps) t 0))) (ap lowered load-q ∙ raised-back (powerIn t z .q) (load-setting .reactive t))
                 ∙ ap₂ (λ i n. raised (floorDiv (powerIn i z .q) n)) (sym (e .place-is)) (e .step-is);
           }

@@ -101,7 +101,7 @@ pub fn cells_of(book: Book, slots: Slots) -> usize
 fn grid_value(power: u64, step: u64) -> u64
     requires { ⌜ (power ≤ 65536) × (1 ≤ step) × (step ≤ 65535) ⌝ }
     ensures { λ r. ⌜ r ≡ raised (gridValue (lowered power) step) ⌝ }
-    ensures { λ r. ⌜ gridValue (lowered power) step ≡ floorDiv (lowered power) step ⌝ }
+    ensures { λ _. ⌜ gridValue (lowered power) step ≡ floorDiv (lowered power) step ⌝ }
 {
     (power + 32768 * (step - 1)) / step
 }

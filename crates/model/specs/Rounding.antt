@@ -9,6 +9,7 @@ use Rattle.model.specs.Grid.{floorDiv}
 abbrev pub gridValue : ℤ → ℕ → ℤ
 gridValue q l = quotZ (q +ℤ pos (32768 * l)) (pos l) -ℤ pos 32768
 
--- "For every Q of 16 bits and every L from 1 to 65,535, shown once over L, this is document 01's grid value" (proofs/RoundingLaws, `rounding`)
+-- "For every Q of 16 bits and every L from 1 to 65,535, shown once over L, this is document 01's grid value" (proofs/RoundingLaws, `rounding`);
+-- a Q of 16 bits has |Q| ≤ 32,768
 abbrev pub Rounding : Type 0
 Rounding = (q : ℤ) (l : ℕ) → natAbs q ≤ 32768 → 1 ≤ l → l ≤ 65535 → gridValue q l ≡ floorDiv q l

@@ -1,11 +1,11 @@
 -- `layout::move_of` meets its contract. The invariant: the numbers are those of the slots from t on. Assumes nothing.
 use Prim.Native.Nat.{_+_, _-_, _*_, _/_, _<_, _≤_}
-use mathlib.Core.Path.{_≡_, refl, subst}
+use mathlib.Core.Path.{_≡_, refl, ap, _∙_, subst}
 use native.Mathlib.Nat.{mul-le-mul}
 use native.Mathlib.Omega.{arith}
 use borrow.Author.Needs.{needs}
 use lib.ListN.{getD, set, length}
-use Rattle.model.specs.Values.{settingOf}
+use Rattle.model.specs.Values.{raised, settingOf}
 use Rattle.layout.specs.Layout.{Laid, LoadHeld}
 use Rattle.layout.proofs.ExtentLaws.{back-one}
 use Rattle.layout.proofs.MoveLaws.{Moved, moved-none, moved-more, moved-all, back-fits, up-fits, down-fits, load-few, load-setting, load-q-small, digits-at}
@@ -96,7 +96,7 @@ more c h l =
     let m = c .before .before .before .before .before .before .before .loop in
     let v = settingOf (h .settings) (s .args .c) in
     moved-more (l .slots) v (load-setting (s .args .t1) h (s .args .c) (m .inv .2)) (m .t - 1) (omega (arith, l .count-is)) (l .few) _ _ _ _ (m .back) (m .up) (m .down) (m .active)
-    (digits-at (s .args .t1) h (s .args .c) (m .inv .2) (m .t - 1) (omega arith) (s .args .t5) _ (c .grid-value .result) (l .each (m .t - 1) (omega (arith, l .count-is))) (c .grid-value .ensures .0) (c .grid-value .ensures .1))
+    (digits-at (s .args .t1) h (s .args .c) (m .inv .2) (m .t - 1) (omega arith) (s .args .t5) _ (c .grid-value .result) (l .each (m .t - 1) (omega (arith, l .count-is))) (c .grid-value .ensures .0 ∙ ap raised (c .grid-value .ensures .1)))
     (back-one (λ t. Moved (l .slots) v t (m .back) (m .up) (m .down) (m .active)) (m .t) (c .before .before .before .before .before .before .loop-test .taken) (m .inv .4 h l))
 
 fits : (c : tie.After-grid-value Inv-loop μ-loop)
