@@ -10,6 +10,9 @@ pub mod self_check;
 pub mod session;
 pub mod table;
 
+/// No sheet is longer.
+pub const SHEET_MAX: usize = 159;
+
 /// What the two planners answer.
 #[repr(C)]
 #[derive(Clone, Copy, Debug, Default, PartialEq, Eq)]

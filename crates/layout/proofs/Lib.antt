@@ -1,6 +1,5 @@
 -- Laws that the functions' proofs cite, by subject.
 pub mod ArrayLaws
-pub mod ValueLaws
 pub mod SlotLaws
 pub mod CountLaws
 pub mod ExtentLaws

@@ -5,7 +5,7 @@ use mathlib.Core.Path.{_≡_, refl, sym, ap, ap₂, _∙_, subst}
 use mathlib.Core.List.{List, [], _∷_}
 use native.Mathlib.Nat.{mul-le-mul, mul-le-mul-left, mul-le-mul-right, div-le-self, zero-add}
 use native.Mathlib.Omega.{arith}
-use lib.IntN.{ℤ, natAbs}
+use lib.IntN.{natAbs}
 use lib.ListN.{length, getD, set, drop, length-set, drop-of-length-le}
 use lib.Seq.{drop-cons}
 use Rattle.model.specs.declared.Load.{Load}
@@ -16,7 +16,7 @@ use Rattle.model.specs.Trials.{gridTop}
 use Rattle.model.specs.Valid.{SettingSmall}
 use Rattle.model.specs.Values.{raised, lowered, settingOf, loadValue}
 use Rattle.model.proofs.UptoLaws.{getD-upto}
-use Rattle.model.proofs.ValueLaws.{numbered-at, raised-back}
+use Rattle.model.proofs.ValueLaws.{raised-back, raised-small, raised-parts, numbered-at}
 use Rattle.model.proofs.RoundingLaws.{floor-small}
 use Rattle.sums.proofs.SumsLaws.{setting-small, load-active, load-reactive}
 use Rattle.model.proofs.IntegerLaws as integers
@@ -28,7 +28,6 @@ use Rattle.search.specs.Search.{ActivesAre, MoveIs}
 use Rattle.layout.specs.declared.Slots.{Slots}
 use Rattle.layout.specs.Layout.{noSlot, SlotAt, LoadHeld}
 use Rattle.layout.proofs.ArrayLaws.{set-down}
-use Rattle.layout.proofs.ValueLaws.{raised-small, raised-parts}
 use Rattle.search.proofs.ModelLaws.{rows-some}
 use Rattle.layout.proofs.ExtentLaws.{columns-some, rows-fit, columns-fit, rows-more, columns-more}
 

@@ -11,7 +11,7 @@ ghost use lib.ListN.{getD};
 ghost use Rattle.model.specs.Grid.{stepFor, slotsOf, floorDiv};
 ghost use Rattle.model.specs.Trials.{cells};
 ghost use Rattle.model.specs.Values.{raised, lowered, settingOf, Held, problemOf};
-ghost use Rattle.model.specs.Rounding.{gridValue};
+ghost use Rattle.model.specs.Rounding.{floorBySum};
 ghost use Rattle.search.specs.Search.{movesOf, SlotsIn, MoveIs, LoadIs};
 ghost use Rattle.layout.specs.Layout.{Capped, Laid, LoadHeld, Extended, LayoutIs};
 
@@ -100,8 +100,8 @@ pub fn cells_of(book: Book, slots: Slots) -> usize
 // Q + 32,768 × L, and the quotient is the grid value + 32,768. The 32,768 are taken off where the columns move (`down`).
 fn grid_value(power: u64, step: u64) -> u64
     requires { ⌜ (power ≤ 65536) × (1 ≤ step) × (step ≤ 65535) ⌝ }
-    ensures { λ r. ⌜ r ≡ raised (gridValue (lowered power) step) ⌝ }
-    ensures { λ _. ⌜ gridValue (lowered power) step ≡ floorDiv (lowered power) step ⌝ }
+    ensures { λ r. ⌜ r ≡ raised (floorBySum (lowered power) step) ⌝ }
+    ensures { λ _. ⌜ floorBySum (lowered power) step ≡ floorDiv (lowered power) step ⌝ }
 {
     (power + 32768 * (step - 1)) / step
 }

@@ -19,7 +19,7 @@ use Rattle.model.specs.Sheet.{numbersOf, firstLine, slotLine, slotLines,
 use Rattle.model.specs.Calls.{sizeRules, fittingBook, planSheet, plannerResult}
 use Rattle.model.specs.Quick.{optionOne, sizeOf, takeIfFits, quickChoice, quickSheet, quickResult}
 use Rattle.model.specs.Program.{refusalLine, printed, programOutput}
-use Rattle.model.specs.Rounding.{gridValue}
+use Rattle.model.specs.Rounding.{floorBySum}
 
 abbrev pub bytesOf : String → List ℕ
 bytesOf ε = []
@@ -47,7 +47,7 @@ holds (prints book out) = sameLists eqb (programOutput (bytesOf book)) (bytesOf 
 holds (quickPrints book out) = sameLists eqb (printed (quickResult (bytesOf book) 4096)) (bytesOf out)
 holds (reads book) = isDone (readBook (bytesOf book))
 holds (steps n d s l) = eqb (stepFor n d s) l
-holds (rounds x l g) = sameℤ (floorDiv x l) g && sameℤ (gridValue x l) g
+holds (rounds x l g) = sameℤ (floorDiv x l) g && sameℤ (floorBySum x l) g
 
 unfoldable pub bench : List Case
 bench =

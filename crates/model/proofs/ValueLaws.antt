@@ -19,13 +19,24 @@ use Rattle.model.specs.Values.{Held, raised, lowered, settingOf, powerOf
 use Rattle.model.specs.Valid.{Numbered, Labelled, SettingSmall, ValidBook}
 use Rattle.model.proofs.ListLaws.{every-at}
 use Rattle.model.proofs.UptoLaws.{suc-across, getD-upto, take-upto, upto-is}
-use Rattle.model.proofs.IntegerLaws.{split, sub-pos, sub-neg, abs-sub}
+use Rattle.model.proofs.IntegerLaws.{split, sub-pos, sub-neg, up, down, abs-sub}
 use Rattle.model.proofs.ReaderLaws.{book-valid}
 
 pub raised-back : (q : ℤ) → natAbs q ≤ 32768 → lowered (raised q) ≡ q
 unfolding raised
 raised-back (pos n) h = sub-pos (n + 32768) 32768 (omega arith) ∙ ap {B = ℤ} pos (omega arith)
 raised-back (negsuc n) h = sub-neg (32767 - n) 32768 (omega arith) ∙ ap {B = ℤ} negsuc (omega arith)
+
+pub raised-small : (q : ℤ) → natAbs q ≤ 32768 → raised q ≤ 65536
+unfolding raised
+raised-small (pos n) h = omega arith
+raised-small (negsuc n) h = omega arith
+
+-- what is raised exceeds 32,768 as q exceeds 0
+pub raised-parts : (q : ℤ) → natAbs q ≤ 32768 → raised q + down q ≡ 32768 + up q
+unfolding raised
+raised-parts (pos n) h = omega arith
+raised-parts (negsuc n) h = omega arith
 
 pub lowered-back : (n : ℕ) → raised (lowered n) ≡ n
 unfolding raised

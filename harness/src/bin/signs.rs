@@ -1,21 +1,17 @@
 //! Plans a sample of books for the instructions of each call to be counted: `signs plus`, or `signs minus` for the same
-//! books with every Q turned about. With a budget of 0 a call ends (12) once all grid values are known, before any search.
+//! books with -Q in place of every Q. With a budget of 0 a call ends (12) once all grid values are known, before any search.
 
-use harness::draw;
-use harness::plan;
 use harness::random::Random;
 use harness::reference::book::{Book, Level, Load};
-use harness::reference::{grid, MOST_CELLS};
+use harness::reference::grid;
+use harness::{draw, plan, SHEET_MAX};
 use std::collections::BTreeSet;
 use std::process::ExitCode;
 
 const SEED: u64 = 1;
 const BOOKS: usize = 120;
 
-/// No sheet is longer.
-const SHEET: usize = 159;
-
-/// N and T of the sample's books. With d = 1 their tables can be small enough for any step.
+/// N and T of the sample's books. With d = 1 their tables are small enough for any limit above 0.
 const SHAPES: [(usize, usize); 6] = [(1, 4), (1, 3), (2, 3), (3, 2), (6, 2), (24, 1)];
 
 fn main() -> ExitCode {
@@ -30,40 +26,37 @@ fn main() -> ExitCode {
         }
     };
     let random = &mut Random::new(SEED);
-    let books: Vec<Book> = (0..BOOKS)
-        .map(|i| book(random, SHAPES[i % SHAPES.len()], sign))
-        .collect();
+    let shapes = SHAPES.iter().cycle().take(BOOKS);
+    let books: Vec<Book> = shapes.map(|&shape| book(random, shape, sign)).collect();
     println!("{}", size(&books));
     ExitCode::from(u8::from(!books.iter().all(spent)))
 }
 
 /// A book with a budget of 0 whose every Q has the sign.
 fn book(random: &mut Random, (loads, slots): (usize, usize), sign: i64) -> Book {
-    let mut book = Book {
+    let limits: Vec<i64> = (0..slots).map(|_| limit(random)).collect();
+    let step = |&limit: &i64| grid::Slot::new(limit, loads, 1).step;
+    let steps: Vec<i64> = limits.iter().map(step).collect();
+    Book {
         fineness: 1,
         budget: 0,
-        limits: limits(random, slots),
-        loads: vec![Load { levels: Vec::new() }; loads],
-    };
-    while grid::cells(&grid::slots(&book)) > MOST_CELLS {
-        book.limits = limits(random, slots);
+        limits,
+        loads: (0..loads).map(|_| load(random, &steps, sign)).collect(),
     }
-    let steps: Vec<i64> = grid::slots(&book).iter().map(|slot| slot.step).collect();
-    for load in &mut book.loads {
-        let levels = 1 + random.below(3);
-        load.levels = (0..levels).map(|_| level(random, &steps, sign)).collect();
-    }
-    book
 }
 
-/// Limits from 1 to 65,535, each of the two ends now and then: with one load and d = 1 the limit is the step.
-fn limits(random: &mut Random, slots: usize) -> Vec<i64> {
-    let limit = |_| {
-        let largest = random.pick(&[20, 1_000, 65_535]);
-        let any = random.within(1..=largest);
-        random.pick(&[any, any, any, 1, 65_535])
-    };
-    (0..slots).map(limit).collect()
+/// 1 to 65,535, each of the two ends now and then: with one load and d = 1 the limit is the step.
+fn limit(random: &mut Random) -> i64 {
+    let largest = random.pick(&[20, 1_000, 65_535]);
+    let any = random.within(1..=largest);
+    random.pick(&[any, any, any, 1, 65_535])
+}
+
+fn load(random: &mut Random, steps: &[i64], sign: i64) -> Load {
+    let levels = 1 + random.below(3);
+    Load {
+        levels: (0..levels).map(|_| level(random, steps, sign)).collect(),
+    }
 }
 
 fn level(random: &mut Random, steps: &[i64], sign: i64) -> Level {
@@ -71,8 +64,10 @@ fn level(random: &mut Random, steps: &[i64], sign: i64) -> Level {
         let q = reactive(random, step);
         (random.within(q..=65_535), sign * q)
     };
-    let powers = steps.iter().map(power).collect();
-    Level { worth: 1, powers }
+    Level {
+        worth: 1,
+        powers: steps.iter().map(power).collect(),
+    }
 }
 
 /// A Q above 0: any, or at or beside a multiple of the step, where the grid value of -Q changes.
@@ -99,9 +94,9 @@ fn size(books: &[Book]) -> String {
 /// Whether a call says that the budget is spent.
 fn spent(book: &Book) -> bool {
     let words = 4 * grid::cells(&grid::slots(book)) as usize;
-    let answer = plan(&draw::text(book), &mut vec![0; words], &mut [0; SHEET]);
+    let answer = plan(&draw::text(book), &mut vec![0; words], &mut [0; SHEET_MAX]);
     if answer.number != 12 {
-        println!("refusal 12 was due, and the answer is {answer:?}");
+        eprintln!("refusal 12 was due, and the answer is {answer:?}");
     }
     answer.number == 12
 }

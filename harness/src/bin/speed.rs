@@ -1,7 +1,7 @@
 //! Times the archive's planner beside a table planner written by hand in Rust: `speed [ROUNDS]`.
 
 use harness::reference::{Case, MOST_CELLS};
-use harness::{plan, table, Answer};
+use harness::{plan, table, Answer, SHEET_MAX};
 use std::process::ExitCode;
 use std::time::{Duration, Instant};
 
@@ -9,9 +9,6 @@ const ROUNDS: u32 = 20;
 
 /// Short plans get more rounds, until this has passed.
 const LEAST: Duration = Duration::from_millis(200);
-
-/// No sheet is longer.
-const SHEET: usize = 159;
 
 const BOOKS: [(&str, &[u8]); 6] = [
     ("a: T=1 N=24 o=3 d=20", include_bytes!("../../books/a_T1_N24_d20.book")),
@@ -123,7 +120,7 @@ impl Bench {
         while rounds < self.rounds || start.elapsed() < LEAST {
             rounds += 1;
             // Cleared in every round, so that no sheet of an earlier one can pass.
-            let (mut sheet, mut other_sheet) = ([0; SHEET], [0; SHEET]);
+            let (mut sheet, mut other_sheet) = ([0; SHEET_MAX], [0; SHEET_MAX]);
             let (answer, ours) = self.time(plan, book, &mut sheet);
             let (other, rust) = self.time(table::plan, book, &mut other_sheet);
             timing = Timing {

@@ -5,7 +5,7 @@ use borrow.Author.Needs.{needs}
 use lib.IntN.{natAbs}
 use Rattle.model.specs.Grid.{floorDiv}
 use Rattle.model.specs.Values.{raised, lowered}
-use Rattle.model.specs.Rounding.{gridValue}
+use Rattle.model.specs.Rounding.{floorBySum}
 use Rattle.model.proofs.ValueLaws.{lowered-back, lowered-small}
 use Rattle.model.proofs.RoundingLaws.{divided, rounding}
 use Rattle.layout.proofs.grid_value.Statement.{statement}
@@ -28,7 +28,7 @@ returns c =
     let q = lowered (c .args .power) in
     let l = c .args .step in
     let small : natAbs q ≤ 32768 = lowered-small (c .args .power) (c .pre .0) in
-    let same : gridValue q l ≡ floorDiv q l = rounding q l small (c .pre .1) (c .pre .2) in
+    let same : floorBySum q l ≡ floorDiv q l = rounding q l small (c .pre .1) (c .pre .2) in
     (ap (λ x. (x + 32768 * (l - 1)) / l) (sym (lowered-back (c .args .power))) ∙ divided q l (c .pre .1) small ∙ ap raised (sym same), same)
 
 pub grid-value-spec : {M : Type 1} → statement M
