@@ -335,7 +335,7 @@ mod tests {
     use crate::draw::{self, Bounds};
     use crate::random::Random;
     use crate::reference::Case;
-    use crate::Reading;
+    use crate::{Reading, SHEET_MAX};
 
     const BOUNDS: Bounds = Bounds {
         fewest_loads: 1,
@@ -355,7 +355,7 @@ mod tests {
                 let refusal = 1 + random.below(8);
                 fault(&mut random, &mut text, refusal);
             }
-            let mut sheet = vec![0; random.pick(&[80, 159])];
+            let mut sheet = vec![0; random.pick(&[80, SHEET_MAX])];
             let expected = Case::new(text.clone()).plan(work.len(), sheet.len());
             let answer: Reading = plan(&text, &mut work, &mut sheet).into();
             assert_eq!(answer, expected.answer);

@@ -1,6 +1,6 @@
 -- Rounding without the branch (M-102): what is divided is not negative, so that its plain quotient is the grid value, 32,768 too high.
 -- Shown over Q and L. Assumes nothing.
-use Prim.Native.Nat.{ℕ, suc, _+_, _-_, _*_, _/_, _%_, _<_, _≤_}
+use Prim.Native.Nat.{ℕ, suc, _+_, _-_, _*_, _/_, _≤_}
 use mathlib.Core.Path.{_≡_, ap, _∙_}
 use native.Mathlib.Nat.{div-eq-of-lt-le, div-le-self, div-add-mod', mod-lt}
 use native.Mathlib.Omega.{arith}
@@ -9,36 +9,24 @@ use lib.Signed.{quotZ}
 use Rattle.model.specs.Grid.{floorDiv}
 use Rattle.model.specs.Values.{raised}
 use Rattle.model.specs.Rounding.{Rounding}
-use Rattle.model.proofs.IntegerLaws.{sub-pos}
+use Rattle.model.proofs.IntegerLaws.{sub-pos, up, down, abs-is}
 use Rattle.model.proofs.ValueLaws.{raised-back}
 
--- 32,768 × L is 32,768 × (L - 1), and 32,768 more
-one-step-more : (l : ℕ) → 1 ≤ l → 32768 * l ≡ 32768 * (l - 1) + 32768
-one-step-more l one =
-    let some : l ≡ l - 1 + 1 = omega arith in
-    omega (arith, ap (λ x. 32768 * x) some)
+-- "add 32,768 × L": the sum is not negative
+added : (q : ℤ) (l : ℕ) → 1 ≤ l → natAbs q ≤ 32768 → q +ℤ pos (32768 * l) ≡ pos (32768 * l + up q - down q)
+added (pos n) l one h = ap {B = ℤ} pos (omega arith)
+added (negsuc n) l one h = sub-pos (32768 * l) (suc n) (omega arith) ∙ ap {B = ℤ} pos (omega arith)
 
--- "add 32,768 × L": from Q + 32,768, which is not negative, it is 32,768 × (L - 1)
-added : (q : ℤ) (l : ℕ) → 1 ≤ l → natAbs q ≤ 32768 → q +ℤ pos (32768 * l) ≡ pos (raised q + 32768 * (l - 1))
+-- "divide by L": the quotient of what is Q + 32,768 × L is the grid value + 32,768
+pub divided : (q : ℤ) (l n : ℕ) → 1 ≤ l → natAbs q ≤ 32768 → n + down q ≡ 32768 * l + up q → n / l ≡ raised (floorDiv q l)
 unfolding raised
-added (pos n) l one h = ap {B = ℤ} pos (omega (arith, one-step-more l one))
-added (negsuc n) l one h = sub-pos (32768 * l) (suc n) (omega (arith, one-step-more l one)) ∙ ap {B = ℤ} pos (omega (arith, one-step-more l one))
-
--- the quotient of 32,768 L - 1 - n, where r is what m L leaves of n
-below-zero : (n l m r : ℕ) → m * l + r ≡ n → r < l → n ≤ 32767 → m ≤ 32767 → (32767 - n + 32768 * (l - 1)) / l ≡ 32767 - m
-below-zero n l m r e h few less =
-    let k : 32767 - m + m ≡ 32767 = omega arith in
-    let t : (32767 - m) * l + m * l ≡ 32767 * l = omega (arith, ap (λ x. x * l) k) in
-    let all : 32768 * l ≡ 32768 * (l - 1) + 32768 = one-step-more l (omega arith) in
-    div-eq-of-lt-le l (omega arith) (omega arith)
-
--- "divide by L": the quotient is the grid value + 32,768
-pub divided : (q : ℤ) (l : ℕ) → 1 ≤ l → natAbs q ≤ 32768 → (raised q + 32768 * (l - 1)) / l ≡ raised (floorDiv q l)
-unfolding raised
-divided (pos n) l one h =
-    let all : 32768 * l ≡ 32768 * (l - 1) + 32768 = one-step-more l one in
-    div-eq-of-lt-le l (omega (arith, div-add-mod' n l)) (omega (arith, div-add-mod' n l, mod-lt n one))
-divided (negsuc n) l one h = below-zero n l (n / l) (n % l) (div-add-mod' n l) (mod-lt n one) (omega arith) (omega (arith, div-le-self n l))
+divided (pos m) l n one h e =
+    div-eq-of-lt-le l (omega (arith, div-add-mod' m l)) (omega (arith, div-add-mod' m l, mod-lt m one))
+divided (negsuc m) l n one h e =
+    let less : m / l ≤ 32767 = omega (arith, div-le-self m l) in
+    let k : 32767 - m / l + m / l ≡ 32767 = omega arith in
+    let t : (32767 - m / l) * l + m / l * l ≡ 32767 * l = omega (arith, ap (λ x. x * l) k) in
+    div-eq-of-lt-le l (omega (arith, div-add-mod' m l, mod-lt m one)) (omega (arith, div-add-mod' m l, mod-lt m one))
 
 pub floor-small : (q : ℤ) (l : ℕ) → natAbs q ≤ 32768 → natAbs (floorDiv q l) ≤ 32768
 floor-small (pos n) l h = omega (arith, div-le-self n l)
@@ -48,5 +36,5 @@ floor-small (negsuc n) l h = omega (arith, div-le-self n l)
 pub rounding : Rounding
 rounding q l h one most =
     ap (λ x. quotZ x (pos l) -ℤ pos 32768) (added q l one h)
-    ∙ ap (λ n. pos n -ℤ pos 32768) (divided q l one h)
+    ∙ ap (λ n. pos n -ℤ pos 32768) (divided q l _ one h (omega (arith, abs-is q)))
     ∙ raised-back (floorDiv q l) (floor-small q l h)

@@ -6,7 +6,7 @@ use Prim.Native.Nat.{ℕ, _+_, _-_, _*_, _<_, _≤_}
 use native.Mathlib.Omega.{arith}
 use lib.IntN.{ℤ, pos, negsuc, natAbs, subℕ, _+ℤ_}
 use Rattle.model.specs.Values.{raised}
-use Rattle.model.proofs.IntegerLaws.{split, sub-pos, sub-neg, sub-same, sub-add, up, down, as-sub, abs-sub}
+use Rattle.model.proofs.IntegerLaws.{split, sub-pos, sub-neg, sub-same, sub-add, up, down, as-sub, abs-is, abs-sub}
 use Rattle.sums.specs.Sums.{raisedBy}
 
 pub raised-one : (q : ℤ) → raised q ≡ raisedBy 1 q
@@ -18,10 +18,6 @@ raised-is : (n : ℕ) (q : ℤ) → raisedBy n q ≡ up q + 32768 * n - down q
 unfolding raisedBy
 raised-is n (pos k) = omega arith
 raised-is n (negsuc k) = omega arith
-
-abs-is : (q : ℤ) → natAbs q ≡ up q + down q
-abs-is (pos k) = omega arith
-abs-is (negsuc k) = omega arith
 
 raised-sub : (n a b : ℕ) → raisedBy n (subℕ a b) ≡ a + 32768 * n - b
 unfolding raisedBy

@@ -1,12 +1,13 @@
 -- `layout::grid_value` meets its contract. Assumes nothing.
-use Prim.Native.Nat.{_+_, _-_, _*_, _/_, _≤_}
+use Prim.Native.Nat.{_≤_}
 use mathlib.Core.Path.{_≡_, sym, ap, _∙_}
+use native.Mathlib.Omega.{arith}
 use borrow.Author.Needs.{needs}
 use lib.IntN.{natAbs}
 use Rattle.model.specs.Grid.{floorDiv}
 use Rattle.model.specs.Values.{raised, lowered}
 use Rattle.model.specs.Rounding.{floorBySum}
-use Rattle.model.proofs.ValueLaws.{lowered-back, lowered-small}
+use Rattle.model.proofs.ValueLaws.{raised-parts, lowered-back, lowered-small}
 use Rattle.model.proofs.RoundingLaws.{divided, rounding}
 use Rattle.layout.proofs.grid_value.Statement.{statement}
 use Rattle.layout.proofs.grid_value.Tie as tie
@@ -29,7 +30,7 @@ returns c =
     let l = c .args .step in
     let small : natAbs q ≤ 32768 = lowered-small (c .args .power) (c .pre .0) in
     let same : floorBySum q l ≡ floorDiv q l = rounding q l small (c .pre .1) (c .pre .2) in
-    (ap (λ x. (x + 32768 * (l - 1)) / l) (sym (lowered-back (c .args .power))) ∙ divided q l (c .pre .1) small ∙ ap raised (sym same), same)
+    (divided q l _ (c .pre .1) small (omega (arith, raised-parts q small, lowered-back (c .args .power))) ∙ ap raised (sym same), same)
 
 pub grid-value-spec : {M : Type 1} → statement M
 grid-value-spec = tie.close (tie.spec sub-result mul-result add-result div-result returns)
