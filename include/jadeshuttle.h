@@ -117,7 +117,8 @@ typedef struct jadeshuttle_reading {
  *
  * Of every sheet it gives, with P and Q the true sums in a slot and S its limit:
  *   - no choice that keeps P*P + Q*Q <= S*S in every slot is worth more;
- *   - d*d * (P*P + Q*Q) <= (d+2)*(d+2) * S*S in every slot;
+ *   - 4*d*d * (P*P + Q*Q) <= (2*d+3)*(2*d+3) * S*S in every slot, so that the
+ *     apparent power is at most (1 + 3/(2*d)) * S;
  *   - P*P + Q*Q <= S*S in every slot where S < 2*N*d.
  *
  * 4 x cells words of work area are needed. The budget in the book bounds the

@@ -22,7 +22,7 @@ use Rattle.model.specs.Grid.{Slot, stepFor, slotsFrom, slotsOf, keepsLim
 use Rattle.model.specs.Trials.{cells, neededWords, trials}
 use Rattle.model.specs.Sheet.{Sheet, sheetOf, sheetBytes, sheetLength}
 use Rattle.model.specs.Calls.{answerOf, bufferAfter, sizeRules, fittingBook, choiceOr, planSheet, plannerResult}
-use Rattle.model.specs.Demand.{P²+Q², S, T, Demand3}
+use Rattle.model.specs.Demand.{P²+Q², S, T, N, CloserOverload, Demand3}
 use Rattle.model.specs.Valid.{SettingSmall, ValidBook}
 use Rattle.model.proofs.ListLaws.{both, each, every-mem}
 use Rattle.model.proofs.UptoLaws.{suc-across}
@@ -107,25 +107,43 @@ spread-zero n d i s h =
     let z : max 1 (s / (n * d)) - 1 ≡ 0 = omega arith in
     rw (z, mul-zero)
 
+as-squares : (i : ℕ) (c : Choice) → P²+Q² i c ≡ sumIn i c .p * sumIn i c .p + natAbs (sumIn i c .q) * natAbs (sumIn i c .q)
+as-squares i c = ap (λ m. square (sumIn i c .p) + m) (square-abs (sumIn i c .q))
+
 module _ (n d i s : ℕ) (c : Choice) (few : length c ≤ n) (t : Dec.T (admits (slotAt n d i s) (gridIn (slotAt n d i s) c))) where
   here : Near (sumIn i c .p) (natAbs (sumIn i c .q)) (spreadOf (slotAt n d i s)) s
   here = near (slotAt n d i s) c (le-max-left 1 (s / (n * d))) few t
-
-  as-squares : P²+Q² i c ≡ sumIn i c .p * sumIn i c .p + natAbs (sumIn i c .q) * natAbs (sumIn i c .q)
-  as-squares = ap (λ m. square (sumIn i c .p) + m) (square-abs (sumIn i c .q))
-
-  slot-overload : square d * P²+Q² i c ≤ square (d + 2) * square s
-  slot-overload =
-      subst (λ m. square d * m ≤ square (d + 2) * square s) (sym as-squares)
-      (Overload.overload (sumIn i c .p) (natAbs (sumIn i c .q)) (here .p) (here .q) (spreadOf (slotAt n d i s)) (here .p-near) (here .q-near)
-      d s (spread-small n d i s) (here .keeps))
 
   slot-exact : s < 2 * (n * d) → P²+Q² i c ≤ square s
   slot-exact h =
       let z : spreadOf (slotAt n d i s) ≡ 0 = spread-zero n d i s h in
       let x : sumIn i c .p ≤ here .p = omega (arith, here .p-near) in
       let y : natAbs (sumIn i c .q) ≤ here .q = omega (arith, here .q-near) in
-      subst (λ m. m ≤ square s) (sym as-squares) (omega (arith, sq-mono x, sq-mono y, here .keeps))
+      subst (λ m. m ≤ square s) (sym (as-squares i c)) (omega (arith, sq-mono x, sq-mono y, here .keeps))
+
+-- ---- the slots of a book
+
+-- the slot of a book with that number
+abbrev slotIn : Problem → ℕ → Slot
+slotIn b slot = slotAt (N b) (b .fineness) slot (S b slot)
+
+admitted-in : (b : Problem) (c : Choice) → Dec.T (admitted (slotsOf b) c)
+    → (slot : ℕ) → slot < T b → Dec.T (admits (slotIn b slot) (gridIn (slotIn b slot) c))
+unfolding slotsOf
+admitted-in b c t slot l =
+    subst (λ j. Dec.T (admits (slotAt (N b) (b .fineness) j (S b slot)) (gridIn (slotAt (N b) (b .fineness) j (S b slot)) c))) (zero-add slot)
+    (admitted-at (N b) (b .fineness) 0 (b .limits) c t slot l)
+
+-- M-106 of an admitted choice
+closer-kept : (b : Problem) (c : Choice) → length c ≤ N b → Dec.T (admitted (slotsOf b) c) → CloserOverload b c
+closer-kept b c few t slot l =
+    let h : Near (sumIn slot c .p) (natAbs (sumIn slot c .q)) (spreadOf (slotIn b slot)) (S b slot)
+    = here (N b) (b .fineness) slot (S b slot) c few (admitted-in b c t slot (omega arith)) in
+    omega (
+      arith,
+      Overload.closer (sumIn slot c .p) (natAbs (sumIn slot c .q)) (h .p) (h .q) (spreadOf (slotIn b slot)) (h .p-near) (h .q-near)
+          (b .fineness) (S b slot) (spread-small (N b) (b .fineness) slot (S b slot)) (P²+Q² slot c) (as-squares slot c) (h .keeps),
+    )
 
 -- ---- the call
 
@@ -149,6 +167,7 @@ sheet-demand3 book b c t past e p =
     let sound : IsChoice (b .loads) c × Dec.T (admitted (slotsOf b) c) = plan-sound (slotsOf b) (b .loads) c p in
     let len : length c ≡ length (b .loads) = chosen-length (b .loads) c (sound .0) in
     let few : length c ≤ length (b .loads) = omega arith in
+    let closer : CloserOverload b c = closer-kept b c few (sound .1) in
     record {
       b = b;
       reads = e;
@@ -163,15 +182,11 @@ sheet-demand3 book b c t past e p =
           plan-worth b c p other m
           (keeps-all (length (b .loads)) (b .fineness) 0 (b .limits) other
           (λ k l. subst (λ j. apparentSquared (sumIn j other) ≤ square (getD (b .limits) k 0)) (sym (zero-add k)) (h k l)));
-      overload = λ slot l. slot-overload (length (b .loads)) (b .fineness) slot (S b slot) c few (at sound slot l);
-      exact = λ slot l small. slot-exact (length (b .loads)) (b .fineness) slot (S b slot) c few (at sound slot l) small;
+      closer = closer;
+      -- "The older bound then follows from this one", as 2d + 3 ≤ 2(d + 2)
+      overload = λ slot l. omega (arith, closer slot (omega arith));
+      exact = λ slot l small. slot-exact (N b) (b .fineness) slot (S b slot) c few (admitted-in b c (sound .1) slot l) small;
     }
-  where
-    at : IsChoice (b .loads) c × Dec.T (admitted (slotsOf b) c) → (slot : ℕ) → slot < T b
-        → Dec.T (admits (slotAt (length (b .loads)) (b .fineness) slot (S b slot)) (gridIn (slotAt (length (b .loads)) (b .fineness) slot (S b slot)) c))
-    at sound slot l =
-        subst (λ j. Dec.T (admits (slotAt (length (b .loads)) (b .fineness) j (S b slot)) (gridIn (slotAt (length (b .loads)) (b .fineness) j (S b slot)) c))) (zero-add slot)
-        (admitted-at (length (b .loads)) (b .fineness) 0 (b .limits) c (sound .1) slot l)
 
 -- a book that fits was read
 pub fitting-read : (book : List ℕ) (words room : ℕ) (b : Problem) → fittingBook book words room ≡ done b

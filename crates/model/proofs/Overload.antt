@@ -1,6 +1,7 @@
 -- How far a slot's sums can lie from the pair that was tested. Only natural numbers: P and p are active powers, Q and q magnitudes of reactive powers.
 -- Assumes nothing.
 use Prim.Native.Nat.{ℕ, _+_, _*_, _-_, _≤_}
+use mathlib.Core.Path.{_≡_, ap}
 use native.Mathlib.Nat.{mul-le-mul, mul-le-mul-left}
 use native.Mathlib.Omega.{arith}
 use Rattle.model.proofs.Squares.{sq-mono, sq-cancel, sq-sum}
@@ -21,11 +22,7 @@ module _ (P Q p q e : ℕ) (hP : P ≤ p + e) (hQ : Q ≤ q + e) where
         let x : 2 * (d * (p + q)) ≤ 3 * t = three-halves (d * (p + q)) t (omega (arith, mul-le-mul-left (d * d) (sq-sum p q))) in
         omega (arith, mul-le-mul-left (d * d) widen, mul-le-mul de x, sq-mono de)
 
-    -- sharper than demand 3 asks: 4d²(P² + Q²) ≤ (2d + 3)²S²
-    pub overload-sharp : p * p + q * q ≤ S * S → 4 * (d * d) * (P * P + Q * Q) ≤ (2 * d + 3) * (2 * d + 3) * (S * S)
-    overload-sharp keeps =
-        omega (arith, widen-scaled (d * S) (omega (arith, mul-le-mul-left (d * d) keeps)))
-
-    -- demand 3: d²(P² + Q²) ≤ (d + 2)²S², from the sharper bound
-    pub overload : p * p + q * q ≤ S * S → d * d * (P * P + Q * Q) ≤ (d + 2) * (d + 2) * (S * S)
-    overload keeps = omega (arith, overload-sharp keeps)
+    -- M-106, of every x that is P² + Q²: 4d²x ≤ (2d + 3)²S²
+    pub closer : (x : ℕ) → x ≡ P * P + Q * Q → p * p + q * q ≤ S * S → 4 * (d * d) * x ≤ (2 * d + 3) * (2 * d + 3) * (S * S)
+    closer x is keeps =
+        omega (arith, ap (λ n. d * d * n) is, widen-scaled (d * S) (omega (arith, mul-le-mul-left (d * d) keeps)))

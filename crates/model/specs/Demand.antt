@@ -1,5 +1,5 @@
--- The buyer's demand 3, of the book's bytes and the bytes of the sheet buffer after a call that gave a sheet. That there is a sheet "whenever no
--- refusal applies" follows from `plannerResult` (proofs/DemandLaws, `answers`).
+-- The buyer's demand 3, with M-106 of document 02, of the book's bytes and the bytes of the sheet buffer after a call that gave a sheet. That there is
+-- a sheet "whenever no refusal applies" follows from `plannerResult` (proofs/DemandLaws, `answers`).
 use Prim.Native.Nat.{ℕ, _+_, _*_, _<_, _≤_}
 use mathlib.Core.Path.{_≡_}
 use mathlib.Core.List.{List}
@@ -29,6 +29,14 @@ pub record OnSheet (b : Problem) (sheet : List ℕ) (choice : Choice) : Type 0 w
   pub numbers : (k : ℕ) → k < N b → field sheet (18 + 2 * k) 2 ≡ getD choice k (standing (T b)) .number
   pub worth : field sheet 2 8 ≡ worthOf choice
 
+-- M-106's "(2d + 3)² × S²", which 4 × d² × (P² + Q²) keeps to: the apparent power is at most 1 + 3/(2d) of the limit
+abbrev pub closerBound : ℕ → ℕ → ℕ
+closerBound d s = square (2 * d + 3) * square s
+
+-- M-106: "each slot of its sheet keeps 4 × d² × (P² + Q²) at or below (2d + 3)² × S²"
+abbrev pub CloserOverload : Problem → Choice → Type 0
+CloserOverload b choice = (slot : ℕ) → slot < T b → 4 * square (b .fineness) * P²+Q² slot choice ≤ closerBound (b .fineness) (S b slot)
+
 pub record Demand3 (book sheet : List ℕ) : Type 0 where
   -- the book as it is read, with N loads and fineness d, and the sheet's choice
   pub b : Problem
@@ -38,8 +46,9 @@ pub record Demand3 (book sheet : List ℕ) : Type 0 where
   -- "the sheet's choice is worth at least as much as every other choice that keeps P² + Q² ≤ S² in every slot"
   pub worth : (other : Choice) → IsChoice (b .loads) other → ((slot : ℕ) → slot < T b → P²+Q² slot other ≤ square (S b slot))
       → worthOf other ≤ worthOf choice
-  -- the next two have no condition on other choices: "whether or not another choice keeps the limits"
-  -- "it keeps d²(P² + Q²) ≤ (d + 2)²S² in every slot"
+  -- the next three have no condition on other choices: "whether or not another choice keeps the limits"
+  pub closer : CloserOverload b choice
+  -- "The older bound then follows from this one": "it keeps d²(P² + Q²) ≤ (d + 2)²S² in every slot"
   pub overload : (slot : ℕ) → slot < T b → square (b .fineness) * P²+Q² slot choice ≤ square (b .fineness + 2) * square (S b slot)
   -- "and P² + Q² ≤ S² in every slot where S < 2Nd"
   pub exact : (slot : ℕ) → slot < T b → S b slot < 2 * (N b * b .fineness) → P²+Q² slot choice ≤ square (S b slot)

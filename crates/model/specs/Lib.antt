@@ -1,6 +1,6 @@
 -- What the product means: document 01, section by section; Refusals stands before Book, which uses it. Demand is the buyer's demand 3. Lists, Valid
 -- and Values are no section of it: functions on lists, what is known of a book that was read, and what the values of the declared types hold.
--- Then document 02, a file for each request: Rounding (M-102).
+-- Of document 02: Rounding (M-102), and a field of Demand3 (M-106).
 pub mod Lists
 pub mod Frames
 pub mod Refusals
