@@ -49,7 +49,7 @@ isDone (done x) = true
 abbrev printsFor : String → String → Bool
 printsFor book out = sameLists eqb (programOutput (bytesOf book)) (bytesOf out)
 
--- in each slot of the book's plan, 4d²(P² + Q²) is above (2d + 2)²S², and not above M-106's bound
+-- what `overloads` says of the slots, for a book that is read
 abbrev nearBound : Result Problem → Bool
 nearBound (refused r number) = false
 nearBound (done b) = all (λ s. between (s .limit) (4 * square (b .fineness) * P²+Q² (s .place) (choiceOr (plan b)))) (slotsOf b)
@@ -67,11 +67,12 @@ holds (overloads book out) = printsFor book out && nearBound (readBook (bytesOf 
 
 unfoldable pub bench : List Case
 bench =
-    -- these two stand first, so that a wrong bound shows as a table that computes to false
-    -- d = 1: 222.3 % of S in both slots, where M-106 has 250 % and 2 in place of 3 has 200 %. Levels 2 and 3 are worth more; a slot each does not admit them
+    -- these two stand first, as the checker shows what a table computes to only up to a number of steps, and 2 in place of 3 is to show as false
+    -- d = 1: 222.3 % of S in both slots, where M-106 has 250 % and 2 in place of 3 has 200 %. Levels 2 and 3 are worth more, but slot 2 does not admit
+    -- level 2, nor slot 1 level 3
     overloads "010201010000006400640064\n0203000300C7006300C70063000900C7006300C80000000900C8000000C70063\n"
     "04000000030000000401\n05000000C7000000630064\n05000000C7000000630064\n"
-    -- d = 8, examples/close.book: 116.7 % of S, where M-106 has 118.75 % and 2 in place of 3 has 112.5 %
+    -- d = 8, examples/close.book: 116.7 % of S, rounded up, where M-106 has 118.75 % and 2 in place of 3 has 112.5 %
     ∷ overloads "010103080000006414B9\n0201003C08A1060A\n0201002806E70450\n0201001904500373\n"
     "040000007D0000000E010101\n05000013D800000DCD14B9\n"
     ∷ prints "0101030400000064000A\n0201000500050005\n020100050004FFFC\n0201000400040000\n"

@@ -1,4 +1,4 @@
--- Demand 3 of every sheet that the planner gives, for any number of slots and loads.
+-- Demand 3, with M-106, of every sheet that the planner gives, for any number of slots and loads.
 -- Assumes nothing.
 use mathlib.Core.Path.{_≡_, refl, sym, ap, _∙_, subst}
 use mathlib.Core.List.{List, [], _∷_, _++_}
@@ -166,7 +166,7 @@ sheet-demand3 book b c t past e p =
     let good : ValidBook b = book-valid book b e in
     let sound : IsChoice (b .loads) c × Dec.T (admitted (slotsOf b) c) = plan-sound (slotsOf b) (b .loads) c p in
     let len : length c ≡ length (b .loads) = chosen-length (b .loads) c (sound .0) in
-    let few : length c ≤ length (b .loads) = omega arith in
+    let few : length c ≤ N b = omega arith in
     let closer : CloserOverload b c = closer-kept b c few (sound .1) in
     record {
       b = b;
@@ -180,10 +180,10 @@ sheet-demand3 book b c t past e p =
       };
       worth = λ other m h.
           plan-worth b c p other m
-          (keeps-all (length (b .loads)) (b .fineness) 0 (b .limits) other
+          (keeps-all (N b) (b .fineness) 0 (b .limits) other
           (λ k l. subst (λ j. apparentSquared (sumIn j other) ≤ square (getD (b .limits) k 0)) (sym (zero-add k)) (h k l)));
       closer = closer;
-      -- "The older bound then follows from this one", as 2d + 3 ≤ 2(d + 2)
+      -- "The older bound then follows from this one", as 2d + 3 ≤ 2(d + 2); slot < T is asked anew, so that a claim of fewer slots is refused here
       overload = λ slot l. omega (arith, closer slot (omega arith));
       exact = λ slot l small. slot-exact (N b) (b .fineness) slot (S b slot) c few (admitted-in b c (sound .1) slot l) small;
     }

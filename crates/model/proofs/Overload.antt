@@ -1,6 +1,6 @@
 -- How far a slot's sums can lie from the pair that was tested. Only natural numbers: P and p are active powers, Q and q magnitudes of reactive powers.
 -- Assumes nothing.
-use Prim.Native.Nat.{ℕ, _+_, _*_, _-_, _≤_}
+use Prim.Native.Nat.{ℕ, _+_, _*_, _≤_}
 use mathlib.Core.Path.{_≡_, ap}
 use native.Mathlib.Nat.{mul-le-mul, mul-le-mul-left}
 use native.Mathlib.Omega.{arith}

@@ -29,7 +29,7 @@ pub record OnSheet (b : Problem) (sheet : List ℕ) (choice : Choice) : Type 0 w
   pub numbers : (k : ℕ) → k < N b → field sheet (18 + 2 * k) 2 ≡ getD choice k (standing (T b)) .number
   pub worth : field sheet 2 8 ≡ worthOf choice
 
--- M-106's "(2d + 3)² × S²", which 4 × d² × (P² + Q²) keeps to: the apparent power is at most 1 + 3/(2d) of the limit
+-- M-106's "(2d + 3)² × S²", which 4 × d² × (P² + Q²) keeps to: the apparent power is at most 1 + 3/(2d) times the limit
 abbrev pub closerBound : ℕ → ℕ → ℕ
 closerBound d s = square (2 * d + 3) * square s
 
