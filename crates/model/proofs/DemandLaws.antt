@@ -185,7 +185,7 @@ sheet-demand3 book b c t past e p =
       closer = closer;
       -- "The older bound then follows from this one", as 2d + 3 ≤ 2(d + 2); slot < T is asked anew, so that a claim of fewer slots is refused here
       overload = λ slot l. omega (arith, closer slot (omega arith));
-      exact = λ slot l small. slot-exact (N b) (b .fineness) slot (S b slot) c few (admitted-in b c (sound .1) slot l) small;
+      exact = λ slot l small. slot-exact (N b) (b .fineness) slot (S b slot) c few (admitted-in b c (sound .1) slot l) (omega arith);
     }
 
 -- a book that fits was read
