@@ -107,6 +107,7 @@ spread-zero n d i s h =
     let z : max 1 (s / (n * d)) - 1 ≡ 0 = omega arith in
     rw (z, mul-zero)
 
+-- P² + Q², by the magnitude of Q
 as-squares : (i : ℕ) (c : Choice) → P²+Q² i c ≡ sumIn i c .p * sumIn i c .p + natAbs (sumIn i c .q) * natAbs (sumIn i c .q)
 as-squares i c = ap (λ m. square (sumIn i c .p) + m) (square-abs (sumIn i c .q))
 
