@@ -17,8 +17,7 @@ use Rattle.model.specs.Lists.{within, upto}
 use Rattle.model.specs.Frames.{signed, field}
 use Rattle.model.specs.Refusals.{first}
 use Rattle.model.specs.Book.{noPower, kindRule, slotCount, loadCount, finenessIn, headerRules, optionCount, optionStart, powerAt, optionAt, options, settings, loadRules}
-use Rattle.model.specs.Choice.{powerIn}
-use Rattle.model.specs.Quick.{noSetting}
+use Rattle.model.specs.Choice.{powerIn, noSetting}
 use Rattle.model.specs.Values.{raised, settingOf, powerOf}
 use Rattle.model.proofs.ListLaws.{both-true, either-false, within-is}
 use Rattle.model.proofs.IntegerLaws.{split, sub-neg}

@@ -10,8 +10,7 @@ use lib.ListN.{length, getD, drop, drop-of-length-le}
 use lib.Seq.{drop-cons}
 use Rattle.model.specs.Grid.{Slot}
 use Rattle.model.specs.Trials.{gridTop}
-use Rattle.model.proofs.IndexLaws.{widthOf, pairsAt}
-use Rattle.model.proofs.TableLaws.{cellCount}
+use Rattle.model.specs.Index.{widthOf, pairsAt, cellCount}
 use Rattle.layout.specs.Layout.{noSlot, Capped}
 
 cells-some : (slots : List Slot) → 1 ≤ cellCount 1 slots

@@ -9,8 +9,8 @@ use lib.ListN.{length, getD, drop, drop-of-length-le}
 use lib.Seq.{drop-cons}
 use Rattle.model.specs.Grid.{Slot, gridsOf}
 use Rattle.model.specs.Trials.{gridTop}
-use Rattle.model.proofs.IndexLaws.{widthOf, rowCount, columnCount, columnIndex, cells-area}
-use Rattle.model.proofs.TableLaws.{cellCount}
+use Rattle.model.specs.Index.{widthOf, rowCount, columnCount, columnIndex, cellCount}
+use Rattle.model.proofs.IndexLaws.{cells-area}
 use Rattle.search.proofs.ModelLaws.{rows-some}
 use Rattle.layout.specs.Layout.{noSlot}
 

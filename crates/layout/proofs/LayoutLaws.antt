@@ -13,20 +13,19 @@ use Rattle.model.specs.Lists.{Every}
 use Rattle.model.specs.Book.{Settings}
 use Rattle.model.specs.Grid.{Slot, slotsOf}
 use Rattle.model.specs.Trials.{cells}
-use Rattle.model.specs.Quick.{noSetting}
-use Rattle.model.specs.Valid.{Numbered, Labelled, SettingSmall}
+use Rattle.model.specs.Valid.{Numbered, Labelled, SettingSmall, SettingBelow}
 use Rattle.model.specs.Values.{Held, settingOf, problemOf}
+use Rattle.model.specs.Choice.{noSetting}
 use Rattle.model.proofs.ListLaws.{every-at}
 use Rattle.model.proofs.AdmissionLaws.{slots-for}
 use Rattle.model.proofs.IndexLaws.{cells-one}
 use Rattle.model.proofs.ValueLaws.{numbered-at}
-use Rattle.model.proofs.RowLaws.{SettingBelow}
+use Rattle.model.proofs.HeldLaws.{held-valid, held-count, held-few, held-slots, held-four, held-load}
 use Rattle.pass.specs.declared.Grid.{Grid}
 use Rattle.pass.specs.declared.LoadMoves.{LoadMoves}
 use Rattle.pass.specs.declared.SettingMove.{SettingMove}
 use Rattle.pass.specs.Pass.{noMove}
 use Rattle.search.specs.Search.{movesOf, TopsAre, SlotsIn, MoveIs, LoadIs, Modelled}
-use Rattle.sums.proofs.HeldLaws.{held-valid, held-count, held-few, held-slots, held-four, held-load}
 use Rattle.layout.specs.declared.Slots.{Slots}
 use Rattle.layout.specs.declared.Extent.{Extent}
 use Rattle.layout.specs.Layout.{LoadHeld, Extended, LayoutIs}

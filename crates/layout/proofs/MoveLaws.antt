@@ -15,15 +15,14 @@ use Rattle.model.specs.Grid.{Slot, floorDiv}
 use Rattle.model.specs.Trials.{gridTop}
 use Rattle.model.specs.Valid.{SettingSmall}
 use Rattle.model.specs.Values.{raised, lowered, settingOf, loadValue}
+use Rattle.model.specs.Cells.{settingGrid, settingGrids}
+use Rattle.model.specs.Index.{widthOf, rowIndex, rowCount, columnCount, cellCount, columnUp, columnDown}
 use Rattle.model.proofs.UptoLaws.{getD-upto}
 use Rattle.model.proofs.ValueLaws.{raised-back, raised-small, raised-parts, numbered-at}
 use Rattle.model.proofs.RoundingLaws.{floor-small}
-use Rattle.sums.proofs.SumsLaws.{setting-small, load-active, load-reactive}
-use Rattle.model.proofs.IntegerLaws as integers
-use Rattle.model.proofs.ChoiceLaws.{settingGrid, settingGrids}
-use Rattle.model.proofs.IndexLaws.{widthOf, rowIndex, rowCount, columnCount}
-use Rattle.model.proofs.TableLaws.{cellCount}
-use Rattle.model.proofs.RowLaws.{columnUp, columnDown, digit-plus}
+use Rattle.model.specs.Index as index
+use Rattle.model.proofs.RowLaws.{digit-plus}
+use Rattle.model.proofs.HeldLaws.{setting-small, load-active, load-reactive}
 use Rattle.search.specs.Search.{ActivesAre, MoveIs}
 use Rattle.layout.specs.declared.Slots.{Slots}
 use Rattle.layout.specs.Layout.{noSlot, SlotAt, LoadHeld}
@@ -108,8 +107,8 @@ module _ (slots : List Slot) (v : Setting) (small : SettingSmall v) (t : ℕ) (l
             ∙ ap (λ ss. rowIndex ss (settingGrids ss v)) (sym e);
         shift-is = subst (λ ss. up * wide + b + columnDown 1 ss (settingGrids ss v) ≡ down * wide + 32768 + columnUp 1 ss (settingGrids ss v)) (sym e)
             (subst (λ w. up * w + b + columnDown 1 (s ∷ rest) (settingGrids (s ∷ rest) v) ≡ down * w + 32768 + columnUp 1 (s ∷ rest) (settingGrids (s ∷ rest) v)) (sym (d .wide-is))
-            (digit-plus up (columnDown 1 rest (settingGrids rest v)) down (columnUp 1 rest (settingGrids rest v)) (widthOf 1 s) b (integers.down (settingGrid s v .q)) 32768 (integers.up (settingGrid s v .q)) (m .shift-is)
-            (ap (λ x. x + integers.down (settingGrid s v .q)) (d .reactive-is) ∙ raised-parts (settingGrid s v .q) near)));
+            (digit-plus up (columnDown 1 rest (settingGrids rest v)) down (columnUp 1 rest (settingGrids rest v)) (widthOf 1 s) b (index.down (settingGrid s v .q)) 32768 (index.up (settingGrid s v .q)) (m .shift-is)
+            (ap (λ x. x + index.down (settingGrid s v .q)) (d .reactive-is) ∙ raised-parts (settingGrid s v .q) near)));
         actives-are = set-down (λ i x. x ≡ settingGrid (getD slots i noSlot) v .p) active t (length slots) a 0 (omega (arith, m .active-length)) (d .active-is) (λ i h k. m .actives-are i h k);
         back-most = back-bound;
         up-most = column-bound up b (m .up-most) b-small;

@@ -10,11 +10,12 @@ use Rattle.model.specs.declared.Book.{Book}
 use Rattle.model.specs.Grid.{Slot, stepFor, slotsFrom, slotsOf}
 use Rattle.model.specs.Trials.{gridTop, cells}
 use Rattle.model.specs.Values.{Held, problemOf}
-use Rattle.model.proofs.IndexLaws.{widthOf, cells-one}
+use Rattle.model.specs.Index.{widthOf}
+use Rattle.model.proofs.IndexLaws.{cells-one}
 use Rattle.model.proofs.DemandLaws.{slotAt}
 use Rattle.model.proofs.SheetLaws.{length-slots}
 use Rattle.model.proofs.UptoLaws.{suc-across}
-use Rattle.sums.proofs.HeldLaws.{held-valid, held-count, held-slots, held-four, held-limit, held-limit-small}
+use Rattle.model.proofs.HeldLaws.{held-valid, held-count, held-slots, held-four, held-limit, held-limit-small}
 use Rattle.search.specs.Search.{SlotsIn}
 use Rattle.layout.specs.declared.Slots.{Slots}
 use Rattle.layout.specs.Layout.{noSlot, SlotAt, Laid}

@@ -10,8 +10,7 @@ use Rattle.model.specs.Grid.{Slot, slotsOf, gridsOf}
 use Rattle.model.specs.Trials.{gridTop, cells}
 use Rattle.model.specs.Valid.{Labelled, SettingSmall}
 use Rattle.model.specs.Values.{loadValue}
-use Rattle.model.proofs.IndexLaws.{widthOf, rowCount, columnCount, columnIndex}
-use Rattle.model.proofs.TableLaws.{cellCount}
+use Rattle.model.specs.Index.{widthOf, rowCount, columnCount, columnIndex, cellCount}
 use Rattle.search.specs.Search.{Modelled}
 use Rattle.layout.specs.declared.Slots.{Slots}
 use Rattle.layout.specs.declared.Extent.{Extent}

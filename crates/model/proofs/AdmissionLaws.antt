@@ -14,9 +14,11 @@ use Rattle.model.specs.Book.{Power, Problem}
 use Rattle.model.specs.Choice.{Choice, plus, powerIn, sumIn, square, squareℤ, apparentSquared}
 use Rattle.model.specs.Grid.{Slot, spreadOf, slotsFrom, slotsOf, keepsLimits, floorDiv, GridPair, gridOf, gridIn, times, Admissible, leastAbs, admits, admitted}
 use Rattle.model.specs.Trials.{gridTop}
+use Rattle.model.specs.Index.{up, down}
+use Rattle.model.specs.Valid.{SlotsFor}
 use Rattle.model.proofs.ListLaws.{both, each}
 use Rattle.model.proofs.Squares.{sq-mono, sq-cancel}
-use Rattle.model.proofs.IntegerLaws.{up, down, as-sub, neg-sub, abs-sub, sub-add, sub-same, times-sub, times-add}
+use Rattle.model.proofs.IntegerLaws.{as-sub, neg-sub, abs-sub, sub-add, sub-same, times-sub, times-add}
 
 pub square-abs : (z : ℤ) → squareℤ z ≡ square (natAbs z)
 square-abs (pos n) = refl
@@ -172,11 +174,6 @@ fits-admits s c h n k = admits-of s (gridIn s c) (go (rounded-choice s h c))
           j-fits = le-trans (r .j-fits) spread;
           inside = subst (λ m. m ≤ square (s .limit)) (ap₂ _+_ (ap square (r .p-is)) (ap squareℤ (r .q-is))) k;
         }
-
--- what the slots of a book for n loads have
-abbrev pub SlotsFor : ℕ → List Slot → Type 0
-SlotsFor n [] = Unit {0}
-SlotsFor n (s ∷ slots) = ((0 < s .step) × (s .loads ≡ n)) × SlotsFor n slots
 
 slots-from : (n d i : ℕ) (ss : List ℕ) → SlotsFor n (slotsFrom n d i ss)
 slots-from n d i [] = tt

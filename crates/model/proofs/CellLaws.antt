@@ -14,15 +14,10 @@ use lib.ListN.{length}
 use borrow.Author.Tests.{eq-eqb, ne-eqb, eqb-true}
 use Rattle.model.specs.Lists.{Every, keep, keepIf, any, distinct}
 use Rattle.model.specs.Choice.{Choice}
-use Rattle.model.proofs.OrderLaws.{Key, join, join-none, join-assoc, join-comm, bestKey}
-use Rattle.model.proofs.RecurrenceLaws.{keyOf, bestWhere}
+use Rattle.model.specs.Cells.{Key, join, bestKey, choiceKey, bestWhere, joinUpto, isSome, countUpto}
+use Rattle.model.proofs.OrderLaws.{join-none, join-assoc, join-comm}
 
 -- ---- the best of the cells
-
--- the best of f 0 to f (n - 1)
-abbrev pub joinUpto : ℕ → (ℕ → Option Key) → Option Key
-joinUpto zero f = none
-joinUpto (suc n) f = join (joinUpto n f) (f n)
 
 swap : (a b c d : Option Key) → join (join a b) (join c d) ≡ join (join a c) (join b d)
 swap a b c d =
@@ -58,10 +53,10 @@ only-upto (suc n) j x h = go (ℕ-discrete j n) (only-upto n j x)
     go (no e) ih = ap₂ join (ih (omega arith)) (only-other x e) ∙ join-none x
 
 where-cons : (p : Choice → Bool) (c : Choice) (cs : List Choice)
-    → bestWhere p (c ∷ cs) ≡ join (cond (p c) (some (keyOf c)) none) (bestWhere p cs)
+    → bestWhere p (c ∷ cs) ≡ join (cond (p c) (some (choiceKey c)) none) (bestWhere p cs)
 where-cons p c cs = go (p c)
   where
-    go : (t : Bool) → bestKey (map keyOf (keepIf t c (keep p cs))) ≡ join (cond t (some (keyOf c)) none) (bestWhere p cs)
+    go : (t : Bool) → bestKey (map choiceKey (keepIf t c (keep p cs))) ≡ join (cond t (some (choiceKey c)) none) (bestWhere p cs)
     go true = refl
     go false = refl
 
@@ -72,18 +67,13 @@ best-by-cell n p cell [] h = sym (upto-none n (λ i. none) (λ m l. refl))
 best-by-cell n p cell (c ∷ cs) h =
     where-cons p c cs
     ∙ ap₂ join (one (p c) (h .0)) (best-by-cell n p cell cs (h .1))
-    ∙ sym (join-upto n (λ i. cond (p c && eqb (cell c) i) (some (keyOf c)) none) (λ i. bestWhere (λ d. p d && eqb (cell d) i) cs))
+    ∙ sym (join-upto n (λ i. cond (p c && eqb (cell c) i) (some (choiceKey c)) none) (λ i. bestWhere (λ d. p d && eqb (cell d) i) cs))
     ∙ ap (joinUpto n) (fun-ext (λ i. sym (where-cons (λ d. p d && eqb (cell d) i) c cs)))
   where
     one : (t : Bool) → (T t → cell c < n)
-        → cond t (some (keyOf c)) none ≡ joinUpto n (λ i. cond (t && eqb (cell c) i) (some (keyOf c)) none)
-    one true b = sym (only-upto n (cell c) (some (keyOf c)) (b tt))
+        → cond t (some (choiceKey c)) none ≡ joinUpto n (λ i. cond (t && eqb (cell c) i) (some (choiceKey c)) none)
+    one true b = sym (only-upto n (cell c) (some (choiceKey c)) (b tt))
     one false b = sym (upto-none n (λ i. none) (λ m l. refl))
-
--- a cell has a best exactly when some choice has it
-abbrev pub isSome : Option Key → Bool
-isSome none = false
-isSome (some x) = true
 
 some-join : (x y : Option Key) → isSome (join x y) ≡ isSome x || isSome y
 some-join none y = refl
@@ -94,19 +84,14 @@ pub some-any : (p : Choice → Bool) (cs : List Choice) → isSome (bestWhere p 
 some-any p [] = refl
 some-any p (c ∷ cs) =
     ap isSome (where-cons p c cs)
-    ∙ some-join (cond (p c) (some (keyOf c)) none) (bestWhere p cs)
+    ∙ some-join (cond (p c) (some (choiceKey c)) none) (bestWhere p cs)
     ∙ ap₂ _||_ (one (p c)) (some-any p cs)
   where
-    one : (t : Bool) → isSome (cond t (some (keyOf c)) none) ≡ t
+    one : (t : Bool) → isSome (cond t (some (choiceKey c)) none) ≡ t
     one true = refl
     one false = refl
 
 -- ---- the number of cells
-
--- how many of 0 to n - 1 are marked
-abbrev pub countUpto : ℕ → (ℕ → Bool) → ℕ
-countUpto zero m = 0
-countUpto (suc n) m = countUpto n m + cond (m n) 1 0
 
 mark-same : (n j : ℕ) (m : ℕ → Bool) → m j ≡ true → countUpto n (λ i. eqb j i || m i) ≡ countUpto n m
 mark-same n j m e = ap (countUpto n) (fun-ext (λ i. go i (eqb j i) refl))

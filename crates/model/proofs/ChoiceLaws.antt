@@ -11,7 +11,8 @@ use lib.ListN.{length}
 use Rattle.model.specs.Lists.{Mem, Every}
 use Rattle.model.specs.Book.{Power, Setting, Settings, noPower}
 use Rattle.model.specs.Choice.{Choice, IsChoice, choices, withEach, worthOf, codeOf, plus, powerIn, sumIn}
-use Rattle.model.specs.Grid.{Slot, gridOf, gridIn, gridsOf}
+use Rattle.model.specs.Grid.{Slot, gridIn, gridsOf}
+use Rattle.model.specs.Cells.{settingGrid, settingGrids}
 
 -- ---- the choices of one load more
 
@@ -98,10 +99,6 @@ sum-last place [] v = plus-comm (powerIn place v) noPower
 sum-last place (u ∷ c) v =
     ap (plus (powerIn place u)) (sum-last place c v) ∙ sym (plus-assoc (powerIn place u) (sumIn place c) (powerIn place v))
 
--- the grid pair of a setting in a slot
-abbrev pub settingGrid : Slot → Setting → Power
-settingGrid s v = gridOf (s .step) (powerIn (s .place) v)
-
 pub grid-last : (s : Slot) (c : Choice) (v : Setting) → gridIn s (snoc v c) ≡ plus (gridIn s c) (settingGrid s v)
 grid-last s [] v = plus-comm (settingGrid s v) noPower
 grid-last s (u ∷ c) v = ap (plus (settingGrid s u)) (grid-last s c v) ∙ sym (plus-assoc (settingGrid s u) (gridIn s c) (settingGrid s v))
@@ -111,9 +108,6 @@ abbrev pub plusEach : List Power → List Power → List Power
 plusEach [] ys = []
 plusEach (x ∷ xs) [] = []
 plusEach (x ∷ xs) (y ∷ ys) = plus x y ∷ plusEach xs ys
-
-abbrev pub settingGrids : List Slot → Setting → List Power
-settingGrids slots v = map (λ s. settingGrid s v) slots
 
 pub grids-last : (slots : List Slot) (c : Choice) (v : Setting)
     → gridsOf slots (snoc v c) ≡ plusEach (gridsOf slots c) (settingGrids slots v)

@@ -3,20 +3,14 @@
 use mathlib.Core.Path.{_≡_, refl, sym, ap, ap₂, _∙_}
 use mathlib.Core.List.{List, [], _∷_, map}
 use mathlib.Core.Option.{Option·some-injective}
-use Prim.Native.Nat.{ℕ, zero, suc, _+_, _*_, _/_, _%_, _<_}
+use Prim.Native.Nat.{ℕ, _+_, _*_, _/_, _%_, _<_}
 use native.Mathlib.Omega.{arith}
 use lib.ListN.{length}
 use Rattle.model.specs.Lists.{Every}
 use Rattle.model.specs.Book.{Setting, Settings}
-use Rattle.model.specs.Choice.{Choice, IsChoice, codeOf}
-use Rattle.model.specs.SheetReader.{settingNumbered}
+use Rattle.model.specs.Choice.{Choice, IsChoice, codeOf, settingNumbered, decode}
 use Rattle.model.specs.Valid.{Labelled}
 use Rattle.model.proofs.SheetLaws.{number-small, found}
-
--- n digits to the base 4, the lowest first
-abbrev pub decode : ℕ → ℕ → List ℕ
-decode zero x = []
-decode (suc n) x = x % 4 ∷ decode n (x / 4)
 
 pub code-back : (loads : List Settings) (c : Choice) → Every Labelled loads → IsChoice loads c
     → decode (length loads) (codeOf c) ≡ map (λ (v : Setting). v .number) c

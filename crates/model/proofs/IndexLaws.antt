@@ -16,56 +16,9 @@ use Rattle.model.specs.Book.{Power, Problem}
 use Rattle.model.specs.Choice.{Choice, powerIn}
 use Rattle.model.specs.Grid.{Slot, slotsOf, floorDiv, gridIn}
 use Rattle.model.specs.Trials.{gridTop, pairsOf, cells, sameℤ, samePair}
+use Rattle.model.specs.Index.{up, down, depthOf, widthOf, pairsAt, raisedIn, rowIndex, columnIndex, rowCount, columnCount, indexOf, gridFrom}
 use Rattle.model.proofs.ListLaws.{both, each, bool-same}
-use Rattle.model.proofs.IntegerLaws.{up, down, split, sub-pos, sub-neg, sub-same, sub-add, as-sub}
-
--- how far below 0 a b can be
-abbrev pub depthOf : ℕ → Slot → ℕ
-depthOf r s = r * gridTop s + r * s .loads
-
--- how many values a b can have
-abbrev pub widthOf : ℕ → Slot → ℕ
-widthOf r s = 2 * r * gridTop s + (2 * r - 1) * s .loads + 1
-
--- how many grid pairs a slot has
-abbrev pub pairsAt : ℕ → Slot → ℕ
-pairsAt r s = (gridTop s + 1) * widthOf r s
-
--- b from 0 on
-abbrev pub raisedIn : ℕ → Slot → Power → ℕ
-raisedIn r s g = up (g .q) + depthOf r s - down (g .q)
-
--- THE LAYOUT: a cell's row has the a of each slot as digits, slot 0 lowest, and its column the b; cells of one row lie side by side
-abbrev pub rowIndex : List Slot → List Power → ℕ
-rowIndex [] gs = 0
-rowIndex (s ∷ slots) [] = 0
-rowIndex (s ∷ slots) (g ∷ gs) = rowIndex slots gs * (gridTop s + 1) + g .p
-
-abbrev pub columnIndex : ℕ → List Slot → List Power → ℕ
-columnIndex r [] gs = 0
-columnIndex r (s ∷ slots) [] = 0
-columnIndex r (s ∷ slots) (g ∷ gs) = columnIndex r slots gs * widthOf r s + raisedIn r s g
-
-abbrev pub rowCount : List Slot → ℕ
-rowCount [] = 1
-rowCount (s ∷ slots) = rowCount slots * (gridTop s + 1)
-
-abbrev pub columnCount : ℕ → List Slot → ℕ
-columnCount r [] = 1
-columnCount r (s ∷ slots) = columnCount r slots * widthOf r s
-
--- the cell of a list of pairs
-abbrev pub indexOf : ℕ → List Slot → List Power → ℕ
-indexOf r slots gs = rowIndex slots gs * columnCount r slots + columnIndex r slots gs
-
--- the list of pairs that a cell stands for
-abbrev pub pairAt : ℕ → Slot → ℕ → ℕ → Power
-pairAt r s a b = record { p = a; q = subℕ b (depthOf r s) }
-
-abbrev pub gridFrom : ℕ → List Slot → ℕ → ℕ → List Power
-gridFrom r [] row col = []
-gridFrom r (s ∷ slots) row col =
-    pairAt r s (row % (gridTop s + 1)) (col % widthOf r s) ∷ gridFrom r slots (row / (gridTop s + 1)) (col / widthOf r s)
+use Rattle.model.proofs.IntegerLaws.{split, sub-pos, sub-neg, sub-same, sub-add, as-sub}
 
 abbrev pub gridAt : ℕ → List Slot → ℕ → List Power
 gridAt r slots i = gridFrom r slots (i / columnCount r slots) (i % columnCount r slots)

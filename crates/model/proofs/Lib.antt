@@ -22,6 +22,8 @@ pub mod CodeLaws
 pub mod QuickLaws
 pub mod DemandLaws
 pub mod ValueLaws
+pub mod RaisedLaws
+pub mod HeldLaws
 pub mod RoundingLaws
 pub mod ReadingLaws
 pub mod Bench

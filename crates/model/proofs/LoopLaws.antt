@@ -12,13 +12,11 @@ use Rattle.model.specs.Lists.{Every, keepIf}
 use Rattle.model.specs.Book.{Settings}
 use Rattle.model.specs.Grid.{Slot, gridsOf}
 use Rattle.model.specs.Trials.{gridTop, trialsUpto}
-use Rattle.model.specs.Valid.{SettingKept}
-use Rattle.model.proofs.OrderLaws.{bestKey}
+use Rattle.model.specs.Valid.{SettingKept, Ready}
+use Rattle.model.specs.Cells.{bestKey, choiceKey, bestAt, countUpto, isSome, rangeAll, cellBest}
+use Rattle.model.specs.Index.{indexOf, cellCount}
 use Rattle.model.proofs.ListLaws.{each, every-take}
-use Rattle.model.proofs.RecurrenceLaws.{keyOf, bestAt}
-use Rattle.model.proofs.CellLaws.{countUpto, isSome}
-use Rattle.model.proofs.IndexLaws.{indexOf}
-use Rattle.model.proofs.TableLaws.{Ready, rangeAll, cellBest, cellCount, reached-cells}
+use Rattle.model.proofs.TableLaws.{reached-cells}
 
 pub ready-take : (r n : ℕ) (slots : List Slot) (loads : List Settings) (k : ℕ) → Ready r n slots loads → Ready r n slots (take k loads)
 ready-take r n slots loads k h =
@@ -38,7 +36,7 @@ pub cells-none : (r : ℕ) (slots : List Slot) (i : ℕ)
 unfolding bestAt
 cells-none r slots i = go (rangeAll slots (gridsOf slots [])) (range-none slots) (eqb (indexOf r slots (gridsOf slots [])) i)
   where
-    go : (a : Bool) → T a → (b : Bool) → bestKey (map keyOf (keepIf (a && b) [] [])) ≡ cond b (some (record { worth = 0; code = 0 })) none
+    go : (a : Bool) → T a → (b : Bool) → bestKey (map choiceKey (keepIf (a && b) [] [])) ≡ cond b (some (record { worth = 0; code = 0 })) none
     go true t true = refl
     go true t false = refl
     go false t b = absurd t

@@ -10,13 +10,7 @@ use native.Mathlib.Nat.{le-antisymm}
 use native.Mathlib.Omega.{arith}
 use lib.Dec.{ltb, eqb}
 use borrow.Author.Tests.{ltb-true, ltb-false, eqb-true, eqb-false}
-
-pub record Key : Type 0 where
-  pub worth : ℕ
-  pub code : ℕ
-
-abbrev pub beats : Key → Key → Bool
-beats y x = ltb (x .worth) (y .worth) || (eqb (x .worth) (y .worth) && ltb (y .code) (x .code))
+use Rattle.model.specs.Cells.{Key, beats, betterKey, join, bestKey, shift, shift?}
 
 -- what the answer of the test says
 pub data Versus (y x : Key) : Bool → Type 0 where
@@ -71,18 +65,14 @@ neither x y (less a) (tie-more b d) = absurd (omega arith)
 neither x y (tie-more a c) (less b) = absurd (omega arith)
 neither x y (tie-more a c) (tie-more b d) = λ i. record { worth = a i; code = le-antisymm c d i }
 
--- the better of two, the first of two that are equal
-abbrev pub better₂ : Key → Key → Key
-better₂ x y = cond (beats y x) y x
-
-pub better-assoc : (x y z : Key) → better₂ x (better₂ y z) ≡ better₂ (better₂ x y) z
+pub better-assoc : (x y z : Key) → betterKey x (betterKey y z) ≡ betterKey (betterKey x y) z
 better-assoc x y z = go (beats y x) (beats z y) (beats z x) refl refl refl
   where
     v : (a b : Key) (t : Bool) → beats a b ≡ t → Versus a b t
     v a b t e = subst (Versus a b) e (versus a b)
 
     go : (p q r : Bool) → beats y x ≡ p → beats z y ≡ q → beats z x ≡ r
-        → better₂ x (cond q z y) ≡ better₂ (cond p y x) z
+        → betterKey x (cond q z y) ≡ betterKey (cond p y x) z
     go true true true ep eq er = ap (λ t. cond t z x) er ∙ sym (ap (λ t. cond t z y) eq)
     go true true false ep eq er = absurd (trans x y z (v y x true ep) (v z y true eq) (v z x false er))
     go true false r ep eq er = ap (λ t. cond t y x) ep ∙ sym (ap (λ t. cond t z y) eq)
@@ -90,7 +80,7 @@ better-assoc x y z = go (beats y x) (beats z y) (beats z x) refl refl refl
     go false false true ep eq er = absurd (not-trans x y z (v y x false ep) (v z y false eq) (v z x true er))
     go false false false ep eq er = ap (λ t. cond t y x) ep ∙ sym (ap (λ t. cond t z x) er)
 
-pub better-comm : (x y : Key) → better₂ x y ≡ better₂ y x
+pub better-comm : (x y : Key) → betterKey x y ≡ betterKey y x
 better-comm x y = go (beats y x) (beats x y) (versus y x) (versus x y)
   where
     go : (p q : Bool) → Versus y x p → Versus x y q → cond p y x ≡ cond q x y
@@ -98,12 +88,6 @@ better-comm x y = go (beats y x) (beats x y) (versus y x) (versus x y)
     go true false a b = refl
     go false true a b = refl
     go false false a b = neither x y a b
-
--- of two that may be missing
-abbrev pub join : Option Key → Option Key → Option Key
-join none y = y
-join (some x) none = some x
-join (some x) (some y) = some (better₂ x y)
 
 pub join-none : (x : Option Key) → join x none ≡ x
 join-none none = refl
@@ -120,22 +104,9 @@ join-comm none y = sym (join-none y)
 join-comm (some x) none = refl
 join-comm (some x) (some y) = ap some (better-comm x y)
 
--- the best of a list
-abbrev pub bestKey : List Key → Option Key
-bestKey [] = none
-bestKey (x ∷ xs) = join (some x) (bestKey xs)
-
 pub best-append : (xs ys : List Key) → bestKey (xs ++ ys) ≡ join (bestKey xs) (bestKey ys)
 best-append [] ys = refl
 best-append (x ∷ xs) ys = ap (join (some x)) (best-append xs ys) ∙ join-assoc (some x) (bestKey xs) (bestKey ys)
-
--- a worth and a code added to a key
-abbrev pub shift : ℕ → ℕ → Key → Key
-shift w k x = record { worth = x .worth + w; code = x .code + k }
-
-abbrev pub shift? : ℕ → ℕ → Option Key → Option Key
-shift? w k none = none
-shift? w k (some x) = some (shift w k x)
 
 shift-beats : (w k : ℕ) (y x : Key) → beats (shift w k y) (shift w k x) ≡ beats y x
 shift-beats w k y x = go (beats y x) (versus y x) (beats (shift w k y) (shift w k x)) (versus (shift w k y) (shift w k x))

@@ -14,9 +14,10 @@ use Rattle.model.specs.Lists.{Mem, Every, keep}
 use Rattle.model.specs.Book.{Setting, Settings, Problem}
 use Rattle.model.specs.Choice.{Choice, IsChoice, choices, withEach, worthOf}
 use Rattle.model.specs.Grid.{Slot, slotsOf, keepsLimits, admitted, better, betterOf, best, bestAdmitted, plan, IsPlan}
+use Rattle.model.specs.Cells.{Key, beats, betterKey, join, bestKey, choiceKey}
 use Rattle.model.proofs.ListLaws.{every-imp, every-keep, every-kept, every-append, every-left, every-right}
-use Rattle.model.proofs.OrderLaws.{Key, beats, better₂, join, bestKey, Versus, versus, less, tie-more, not-trans, not-both}
-use Rattle.model.proofs.RecurrenceLaws.{keyOf, key?, best-key}
+use Rattle.model.proofs.OrderLaws.{Versus, versus, less, tie-more, not-trans, not-both}
+use Rattle.model.proofs.RecurrenceLaws.{key?, best-key}
 use Rattle.model.proofs.AdmissionLaws.{slots-for, keeps-admitted, admitted-is}
 
 -- ---- choices
@@ -101,7 +102,7 @@ beats-none z y k a b = not-beats z k go
     go true e h = not-trans k y z (v y k false b) (v z y false a) (v z k true e)
     go false e h = h
 
-better-left : (x y : Key) → beats x (better₂ x y) ≡ false
+better-left : (x y : Key) → beats x (betterKey x y) ≡ false
 better-left x y = go (beats y x) refl
   where
     go : (t : Bool) → beats y x ≡ t → beats x (cond t y x) ≡ false
@@ -112,7 +113,7 @@ better-left x y = go (beats y x) refl
         at e false q h = h
     go false e = beats-self x
 
-better-right : (x y : Key) → beats y (better₂ x y) ≡ false
+better-right : (x y : Key) → beats y (betterKey x y) ≡ false
 better-right x y = go (beats y x) refl
   where
     go : (t : Bool) → beats y x ≡ t → beats y (cond t y x) ≡ false
@@ -125,7 +126,7 @@ best-key-none (x ∷ xs) e = go (bestKey xs) e
   where
     go : (m : Option Key) → join (some x) m ≡ none → ⊥ × Every (λ (x : Key). ⊥) xs
     go none q = absurd (Option·some-ne-none x q)
-    go (some y) q = absurd (Option·some-ne-none (better₂ x y) q)
+    go (some y) q = absurd (Option·some-ne-none (betterKey x y) q)
 
 pub best-most : (xs : List Key) (k : Key) → bestKey xs ≡ some k → Every (λ x. beats x k ≡ false) xs
 best-most [] k e = tt
@@ -139,13 +140,13 @@ best-most (x ∷ xs) k e = go (bestKey xs) refl e (best-most xs)
       every-imp (λ (z : Key). ⊥) (λ z. beats z k ≡ false) (λ z f. absurd f) xs (best-key-none xs q),
     )
     go (some y) q e rest =
-        let p : better₂ x y ≡ k = Option·some-injective (better₂ x y) k e in (
+        let p : betterKey x y ≡ k = Option·some-injective (betterKey x y) k e in (
           subst (λ k. beats x k ≡ false) p (better-left x y),
           every-imp (λ z. beats z y ≡ false) (λ z. beats z k ≡ false)
               (λ z f. beats-none z y k f (subst (λ k. beats y k ≡ false) p (better-right x y))) xs (rest y q),
         )
 
-every-unmap : (P : Key → Type 0) (cs : List Choice) → Every P (map keyOf cs) → Every (λ c. P (keyOf c)) cs
+every-unmap : (P : Key → Type 0) (cs : List Choice) → Every P (map choiceKey cs) → Every (λ c. P (choiceKey c)) cs
 every-unmap P [] h = tt
 every-unmap P (c ∷ cs) h = (h .0, every-unmap P cs (h .1))
 
@@ -165,8 +166,8 @@ unfolding bestAdmitted
 plan-best slots loads d e c m a =
     chosen-in loads (λ x. T (admitted slots x) → better x d ≡ false) c m
     (every-kept (λ x. better x d ≡ false) (admitted slots) (choices loads)
-    (every-unmap (λ x. beats x (keyOf d) ≡ false) (keep (admitted slots) (choices loads))
-    (best-most (map keyOf (keep (admitted slots) (choices loads))) (keyOf d)
+    (every-unmap (λ x. beats x (choiceKey d) ≡ false) (keep (admitted slots) (choices loads))
+    (best-most (map choiceKey (keep (admitted slots) (choices loads))) (choiceKey d)
     (sym (best-key (keep (admitted slots) (choices loads))) ∙ ap key? e))))
     a
 
@@ -185,7 +186,7 @@ plan-is b c e =
       choice = sound .0;
       admissible = admitted-is (slotsOf b) c .0 (sound .1);
       greatest = λ other m h.
-          not-better (keyOf other) (keyOf c) (better other c) (versus (keyOf other) (keyOf c))
+          not-better (choiceKey other) (choiceKey c) (better other c) (versus (choiceKey other) (choiceKey c))
           (plan-best (slotsOf b) (b .loads) c e other m (admitted-is (slotsOf b) other .1 h));
     }
 

@@ -16,9 +16,8 @@ use Rattle.model.specs.Lists.{within, uptoFrom, upto, any, Every, keep}
 use Rattle.model.specs.Frames.{field, lineOf, afterLine}
 use Rattle.model.specs.Refusals.{Result, done, first, andThen}
 use Rattle.model.specs.Book.{noPower, Setting, Settings, Problem, slotCount, loadCount, finenessIn, problem, optionCount, optionStart, powerAt, optionAt, options, standing, settings, lineRule, headerRules, reactiveExceeds, someExceeds, loadRules, endRules, readLoads, readBook}
-use Rattle.model.specs.Choice.{Choice, IsChoice, choices, powerIn, sumIn, plus, square, apparentSquared}
+use Rattle.model.specs.Choice.{Choice, IsChoice, choices, powerIn, sumIn, plus, square, apparentSquared, firstSetting}
 use Rattle.model.specs.Grid.{Slot, slotsOf, keepsLimits, admitted, betterOf, better, best, bestAdmitted, plan}
-use Rattle.model.specs.Quick.{firstSetting}
 use Rattle.model.specs.Valid.{SettingKept, Idle, Numbered, Labelled, SettingSmall, ValidLoads, ValidBook}
 use Rattle.model.proofs.UptoLaws.{length-upto}
 use Rattle.model.proofs.ListLaws.{each, both-true, within-is, every-imp, every-image, every-getD, every-kept, any-false}

@@ -9,69 +9,63 @@ use Prim.Native.Nat.{ℕ, _+_, _*_, _^_}
 use lib.ListN.{length}
 use Rattle.model.specs.Lists.{keep, keepIf}
 use Rattle.model.specs.Book.{Power, Setting, Settings}
-use Rattle.model.specs.Choice.{Choice, choices, worthOf, codeOf}
+use Rattle.model.specs.Choice.{Choice, choices, codeOf}
 use Rattle.model.specs.Grid.{Slot, gridIn, gridsOf, admits, admitted, better, betterOf, best, bestAdmitted}
-use Rattle.model.proofs.OrderLaws.{Key, join, bestKey, best-append, shift, shift?, best-shift}
+use Rattle.model.specs.Cells.{Key, join, bestKey, shift, shift?, settingGrids, choiceKey, bestWhere, bestAt, admitsAll}
+use Rattle.model.proofs.OrderLaws.{best-append, best-shift}
 use Rattle.model.proofs.ListLaws.{keep-append, keep-map}
-use Rattle.model.proofs.ChoiceLaws.{snoc, extendEach, choices-last, Sized, choices-sized, worth-last, code-last, plusEach, settingGrids, grids-last}
-
-abbrev pub keyOf : Choice → Key
-keyOf c = record { worth = worthOf c; code = codeOf c }
+use Rattle.model.proofs.ChoiceLaws.{snoc, extendEach, choices-last, Sized, choices-sized, worth-last, code-last, plusEach, grids-last}
 
 abbrev pub key? : Option Choice → Option Key
 key? none = none
-key? (some c) = some (keyOf c)
+key? (some c) = some (choiceKey c)
 
 -- the definitions' best choice has the best key
-cond-key : (t : Bool) (d c : Choice) → keyOf (cond t d c) ≡ cond t (keyOf d) (keyOf c)
+cond-key : (t : Bool) (d c : Choice) → choiceKey (cond t d c) ≡ cond t (choiceKey d) (choiceKey c)
 cond-key true d c = refl
 cond-key false d c = refl
 
-better-of-key : (c : Choice) (d : Option Choice) → key? (betterOf c d) ≡ join (some (keyOf c)) (key? d)
+better-of-key : (c : Choice) (d : Option Choice) → key? (betterOf c d) ≡ join (some (choiceKey c)) (key? d)
 better-of-key c none = refl
 better-of-key c (some d) = ap some (cond-key (better d c) d c)
 
-pub best-key : (cs : List Choice) → key? (best cs) ≡ bestKey (map keyOf cs)
+pub best-key : (cs : List Choice) → key? (best cs) ≡ bestKey (map choiceKey cs)
 best-key [] = refl
-best-key (c ∷ cs) = better-of-key c (best cs) ∙ ap (join (some (keyOf c))) (best-key cs)
+best-key (c ∷ cs) = better-of-key c (best cs) ∙ ap (join (some (choiceKey c))) (best-key cs)
 
 -- ---- one more load
 
--- the best key of the choices that pass a test
-abbrev pub bestWhere : (Choice → Bool) → List Choice → Option Key
-bestWhere p cs = bestKey (map keyOf (keep p cs))
-
 where-append : (p : Choice → Bool) (xs ys : List Choice) → bestWhere p (xs ++ ys) ≡ join (bestWhere p xs) (bestWhere p ys)
 where-append p xs ys =
-    ap (λ r. bestKey (map keyOf r)) (keep-append p xs ys)
-    ∙ ap bestKey (map-append keyOf (keep p xs) (keep p ys))
-    ∙ best-append (map keyOf (keep p xs)) (map keyOf (keep p ys))
+    ap (λ r. bestKey (map choiceKey r)) (keep-append p xs ys)
+    ∙ ap bestKey (map-append choiceKey (keep p xs) (keep p ys))
+    ∙ best-append (map choiceKey (keep p xs)) (map choiceKey (keep p ys))
 
 -- setting v after n loads
 abbrev pub step : ℕ → Setting → Option Key → Option Key
 step n v x = shift? (v .worth) (v .number * 4 ^ n) x
 
-key-last : (n : ℕ) (v : Setting) (c : Choice) → length c ≡ n → keyOf (snoc v c) ≡ shift (v .worth) (v .number * 4 ^ n) (keyOf c)
+key-last : (n : ℕ) (v : Setting) (c : Choice) → length c ≡ n → choiceKey (snoc v c) ≡ shift (v .worth) (v .number * 4 ^ n) (choiceKey c)
 key-last n v c e =
     λ i. record { worth = worth-last c v i; code = (code-last c v ∙ ap (λ k. codeOf c + v .number * 4 ^ k) e) i }
 
 keys-last : (n : ℕ) (v : Setting) (p : Choice → Bool) (cs : List Choice) → Sized n cs
-    → map keyOf (map (snoc v) (keep p cs)) ≡ map (shift (v .worth) (v .number * 4 ^ n)) (map keyOf (keep p cs))
+    → map choiceKey (map (snoc v) (keep p cs)) ≡ map (shift (v .worth) (v .number * 4 ^ n)) (map choiceKey (keep p cs))
 keys-last n v p [] z = refl
 keys-last n v p (c ∷ cs) z = go (p c) (keys-last n v p cs (z .1))
   where
-    go : (t : Bool) → map keyOf (map (snoc v) (keep p cs)) ≡ map (shift (v .worth) (v .number * 4 ^ n)) (map keyOf (keep p cs))
-        → map keyOf (map (snoc v) (keepIf t c (keep p cs)))
-        ≡ map (shift (v .worth) (v .number * 4 ^ n)) (map keyOf (keepIf t c (keep p cs)))
+    go : (t : Bool) → map choiceKey (map (snoc v) (keep p cs)) ≡ map (shift (v .worth) (v .number * 4 ^ n)) (map choiceKey (keep p cs))
+        → map choiceKey (map (snoc v) (keepIf t c (keep p cs)))
+        ≡ map (shift (v .worth) (v .number * 4 ^ n)) (map choiceKey (keepIf t c (keep p cs)))
     go true rest = ap₂ {C = List Key} (λ x r. x ∷ r) (key-last n v c (z .0)) rest
     go false rest = rest
 
 where-last : (n : ℕ) (p : Choice → Bool) (v : Setting) (cs : List Choice) → Sized n cs
     → bestWhere p (map (snoc v) cs) ≡ step n v (bestWhere (λ c. p (snoc v c)) cs)
 where-last n p v cs z =
-    ap (λ r. bestKey (map keyOf r)) (keep-map p (snoc v) cs)
+    ap (λ r. bestKey (map choiceKey r)) (keep-map p (snoc v) cs)
     ∙ ap bestKey (keys-last n v (λ c. p (snoc v c)) cs z)
-    ∙ best-shift (v .worth) (v .number * 4 ^ n) (map keyOf (keep (λ c. p (snoc v c)) cs))
+    ∙ best-shift (v .worth) (v .number * 4 ^ n) (map choiceKey (keep (λ c. p (snoc v c)) cs))
 
 -- the best, over the settings v of one more load, of what `old v` gives
 abbrev pub bestOver : ℕ → (Setting → Option Key) → Settings → Option Key
@@ -85,10 +79,6 @@ where-extend n p (v ∷ vs) cs z =
     where-append p (map (snoc v) cs) (extendEach vs cs)
     ∙ ap₂ join (where-last n p v cs z) (where-extend n p vs cs z)
 
--- the best key among the choices of the loads whose grid pairs pass a test
-unfoldable pub bestAt : List Slot → (List Power → Bool) → List Settings → Option Key
-bestAt slots G loads = bestWhere (λ c. G (gridsOf slots c)) (choices loads)
-
 -- THE RECURRENCE: after one more load, the best at G is the best, over its settings v, of the best before it at G with v's grid pairs added
 pub best-at-last : (slots : List Slot) (G : List Power → Bool) (loads : List Settings) (vs : Settings)
     → bestAt slots G (loads ++ (vs ∷ []))
@@ -101,11 +91,6 @@ best-at-last slots G loads vs =
     (fun-ext (λ v. ap (λ p. bestWhere p (choices loads)) (fun-ext (λ c. ap G (grids-last slots c v)))))
 
 -- ---- the plan over the cells
-
-abbrev pub admitsAll : List Slot → List Power → Bool
-admitsAll [] gs = true
-admitsAll (s ∷ slots) [] = true
-admitsAll (s ∷ slots) (g ∷ gs) = admits s g && admitsAll slots gs
 
 pub admitted-grids : (slots : List Slot) (c : Choice) → admitted slots c ≡ admitsAll slots (gridsOf slots c)
 admitted-grids [] c = refl

@@ -9,7 +9,8 @@ use lib.Signed.{quotZ}
 use Rattle.model.specs.Grid.{floorDiv}
 use Rattle.model.specs.Values.{raised}
 use Rattle.model.specs.Rounding.{Rounding}
-use Rattle.model.proofs.IntegerLaws.{sub-pos, up, down, abs-is}
+use Rattle.model.specs.Index.{up, down}
+use Rattle.model.proofs.IntegerLaws.{sub-pos, abs-is}
 use Rattle.model.proofs.ValueLaws.{raised-back}
 
 -- "add 32,768 × L": the sum is not negative

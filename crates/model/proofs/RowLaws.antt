@@ -18,16 +18,16 @@ use Rattle.model.specs.Book.{Power, Setting, Settings}
 use Rattle.model.specs.Choice.{Choice, choices, plus, worthOf, codeOf}
 use Rattle.model.specs.Grid.{Slot, gridIn, gridsOf}
 use Rattle.model.specs.Trials.{gridTop}
-use Rattle.model.specs.Valid.{SettingKept}
-use Rattle.model.proofs.OrderLaws.{Key, beats, join, join-none, join-assoc, bestKey}
+use Rattle.model.specs.Valid.{SettingKept, SlotsFor, Ready, SettingBelow}
+use Rattle.model.specs.Cells.{Key, beats, join, bestKey, settingGrid, settingGrids, choiceKey, bestWhere, bestAt, joinUpto, rangeAll, hasCell, cellBest, Bounded}
+use Rattle.model.specs.Index.{up, down, widthOf, pairsAt, raisedIn, rowIndex, columnIndex, rowCount, columnCount, indexOf, columnUp, columnDown}
+use Rattle.model.proofs.OrderLaws.{join-none, join-assoc}
 use Rattle.model.proofs.ListLaws.{both, each, bool-same, keep-same, every-imp, every-append, every-at}
-use Rattle.model.proofs.IntegerLaws.{up, down, split}
-use Rattle.model.proofs.ChoiceLaws.{snoc, plusEach, settingGrid, settingGrids, grids-last}
-use Rattle.model.proofs.RecurrenceLaws.{keyOf, bestWhere, bestAt, bestOver, step, best-at-last}
-use Rattle.model.proofs.AdmissionLaws.{SlotsFor}
-use Rattle.model.proofs.CellLaws.{joinUpto}
-use Rattle.model.proofs.IndexLaws.{widthOf, pairsAt, raisedIn, rowIndex, columnIndex, rowCount, columnCount, indexOf, WithinAll, cells-area, column-below, int-plus}
-use Rattle.model.proofs.TableLaws.{each-choice, rangeAll, within-all, Ready, hasCell, cellBest, where-test, range-plus}
+use Rattle.model.proofs.IntegerLaws.{split}
+use Rattle.model.proofs.ChoiceLaws.{snoc, plusEach, grids-last}
+use Rattle.model.proofs.RecurrenceLaws.{bestOver, step, best-at-last}
+use Rattle.model.proofs.IndexLaws.{WithinAll, cells-area, column-below, int-plus}
+use Rattle.model.proofs.TableLaws.{each-choice, within-all, where-test, range-plus}
 use Rattle.model.proofs.LoopLaws.{ready-take}
 
 -- the row's digits are at least the setting's a in every slot
@@ -35,17 +35,6 @@ abbrev pub coversAll : List Slot → List Power → ℕ → Bool
 coversAll [] xs row = true
 coversAll (s ∷ slots) [] row = true
 coversAll (s ∷ slots) (x ∷ xs) row = leb (x .p) (row % (gridTop s + 1)) && coversAll slots xs (row / (gridTop s + 1))
-
--- how far pairs move a column up, and down
-abbrev pub columnUp : ℕ → List Slot → List Power → ℕ
-columnUp r [] xs = 0
-columnUp r (s ∷ slots) [] = 0
-columnUp r (s ∷ slots) (x ∷ xs) = columnUp r slots xs * widthOf r s + up (x .q)
-
-abbrev pub columnDown : ℕ → List Slot → List Power → ℕ
-columnDown r [] xs = 0
-columnDown r (s ∷ slots) [] = 0
-columnDown r (s ∷ slots) (x ∷ xs) = columnDown r slots xs * widthOf r s + down (x .q)
 
 -- ---- the row and the column of a sum
 
@@ -263,7 +252,7 @@ source-best : (r n : ℕ) (slots : List Slot) (loads : List Settings) (v : Setti
     ≡ cond (sourceTest (suc r) slots v row col) (cellBest (suc r) slots loads (sourceCell (suc r) slots v row col)) none
 unfolding bestAt
 source-best r n slots loads v h few keeps row col l =
-    ap (λ cs. bestKey (map keyOf cs))
+    ap (λ cs. bestKey (map choiceKey cs))
     (keep-same
     (λ c. hasCell (suc r) slots (row * columnCount (suc r) slots + col) (plusEach (gridsOf slots c) (settingGrids slots v)))
     (λ c. sourceTest (suc r) slots v row col && hasCell (suc r) slots (sourceCell (suc r) slots v row col) (gridsOf slots c))
@@ -319,13 +308,6 @@ over-upto k d old (v ∷ vs) =
 
 -- ---- small numbers: a load adds at most `top` to the worth, and its number is at most 3
 
-abbrev pub SettingBelow : ℕ → Setting → Type 0
-SettingBelow top v = (v .worth ≤ top) × (v .number ≤ 3)
-
-abbrev pub Bounded : ℕ → ℕ → Option Key → Type 0
-Bounded w c none = Unit {0}
-Bounded w c (some x) = (x .worth ≤ w) × (x .code < c)
-
 choice-worth : (top : ℕ) (c : Choice) → Every (SettingBelow top) c → worthOf c ≤ top * length c
 choice-worth top [] h = omega arith
 choice-worth top (v ∷ c) h = omega (arith, choice-worth top c (h .1), h .0 .0)
@@ -346,8 +328,8 @@ bounded-where : (w c : ℕ) (p : Choice → Bool) (cs : List Choice) → Every (
 bounded-where w c p [] h = tt
 bounded-where w c p (d ∷ cs) h = go (p d) (bounded-where w c p cs (h .1))
   where
-    go : (t : Bool) → Bounded w c (bestWhere p cs) → Bounded w c (bestKey (map keyOf (keepIf t d (keep p cs))))
-    go true ih = join-bounded w c (keyOf d) (bestWhere p cs) (h .0) ih
+    go : (t : Bool) → Bounded w c (bestWhere p cs) → Bounded w c (bestKey (map choiceKey (keepIf t d (keep p cs))))
+    go true ih = join-bounded w c (choiceKey d) (bestWhere p cs) (h .0) ih
     go false ih = ih
 
 pub cell-bounded : (top r : ℕ) (slots : List Slot) (loads : List Settings) → Every (Every (SettingBelow top)) loads → (i : ℕ)

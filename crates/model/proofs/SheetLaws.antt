@@ -18,11 +18,10 @@ use Rattle.model.specs.Lists.{Mem, Every, sameLists}
 use Rattle.model.specs.Frames.{digits, field}
 use Rattle.model.specs.Refusals.{Result, done, Rule, _⇒_, first, checked, andThen}
 use Rattle.model.specs.Book.{Power, Setting, Settings, Problem, readBook}
-use Rattle.model.specs.Choice.{Choice, IsChoice, worthOf, codeOf, sumIn}
+use Rattle.model.specs.Choice.{Choice, IsChoice, worthOf, codeOf, sumIn, noSetting, settingNumbered}
 use Rattle.model.specs.Grid.{Slot, slotsFrom, slotsOf}
 use Rattle.model.specs.Sheet.{lf, numbersOf, firstLine, slotLine, slotLines, sheetBytes, sheetLength}
-use Rattle.model.specs.Quick.{noSetting}
-use Rattle.model.specs.SheetReader.{SheetOf, SheetData, settingNumbered, consBoth, choiceFrom, trialsOn, readAs, sheetData, readerResult}
+use Rattle.model.specs.SheetReader.{SheetOf, SheetData, consBoth, choiceFrom, trialsOn, readAs, sheetData, readerResult}
 use Rattle.model.specs.Valid.{Numbered, Labelled}
 use Rattle.model.proofs.ListLaws.{length-concat, same-eq, same-refl}
 use Rattle.model.proofs.FrameLaws.{length-digits, field-back, field-below}

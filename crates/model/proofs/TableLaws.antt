@@ -3,25 +3,26 @@
 use mathlib.Core.Path.{_≡_, refl, sym, ap, ap₂, _∙_, subst, fun-ext}
 use mathlib.Core.Bool.{Bool, true, false, cond, _&&_, _||_}
 use mathlib.Core.List.{List, [], _∷_, map}
-use mathlib.Core.Option.{Option, none}
+use mathlib.Core.Option.{none}
 use Prim.Native.Nat.{ℕ, suc, _+_, _<_, _≤_, _/_}
 use native.Mathlib.Nat.{le-trans, le-add-right}
 use native.Mathlib.Omega.{arith}
 use lib.Dec.{T, leb, leb→le, le→leb, eqb, eqb→eq}
 use lib.ListN.{length}
-use Rattle.model.specs.Lists.{Every, product, keep, keepIf, any, sameLists}
+use Rattle.model.specs.Lists.{Every, keep, keepIf, any, sameLists}
 use Rattle.model.specs.Book.{Power, Setting, Settings}
 use Rattle.model.specs.Choice.{Choice, choices, withEach, powerIn}
 use Rattle.model.specs.Grid.{Slot, gridIn, gridsOf, admits, bestAdmitted}
 use Rattle.model.specs.Trials.{gridTop, samePair, inRange, reachedCount}
-use Rattle.model.specs.Valid.{SettingKept}
-use Rattle.model.proofs.OrderLaws.{Key, bestKey}
+use Rattle.model.specs.Valid.{SettingKept, SlotsFor, Ready}
+use Rattle.model.specs.Cells.{bestKey, settingGrids, choiceKey, bestWhere, bestAt, admitsAll, joinUpto, isSome, countUpto, rangeAll, hasCell, cellBest}
+use Rattle.model.specs.Index.{indexOf, cellCount}
 use Rattle.model.proofs.ListLaws.{both, each, bool-same, every-imp, every-append, every-map, every-keep, keep-same}
-use Rattle.model.proofs.ChoiceLaws.{Sized, choices-sized, plusEach, settingGrids}
-use Rattle.model.proofs.RecurrenceLaws.{keyOf, key?, bestWhere, bestAt, admitsAll, plan-key}
-use Rattle.model.proofs.CellLaws.{joinUpto, best-by-cell, isSome, some-any, countUpto, distinct-count}
-use Rattle.model.proofs.AdmissionLaws.{SlotsFor, admits-range}
-use Rattle.model.proofs.IndexLaws.{pairsAt, indexOf, gridAt, grid-back, WithinAll, index-below, index-apart, Kept, within-choice}
+use Rattle.model.proofs.ChoiceLaws.{Sized, choices-sized, plusEach}
+use Rattle.model.proofs.RecurrenceLaws.{key?, plan-key}
+use Rattle.model.proofs.CellLaws.{best-by-cell, some-any, distinct-count}
+use Rattle.model.proofs.AdmissionLaws.{admits-range}
+use Rattle.model.proofs.IndexLaws.{gridAt, grid-back, WithinAll, index-below, index-apart, Kept, within-choice}
 
 -- ---- a property of every setting of every load holds in every choice
 
@@ -53,11 +54,6 @@ kept r place (v ∷ c) h = (h .0 place, kept r place c (h .1))
 
 -- ---- the pairs that are in the table
 
-abbrev pub rangeAll : List Slot → List Power → Bool
-rangeAll [] gs = true
-rangeAll (s ∷ slots) [] = true
-rangeAll (s ∷ slots) (g ∷ gs) = leb (g .p) (gridTop s) && rangeAll slots gs
-
 pub range-grids : (slots : List Slot) (c : Choice) → inRange slots c ≡ rangeAll slots (gridsOf slots c)
 range-grids [] c = refl
 range-grids (s ∷ slots) c = ap (λ t. leb (gridIn s c .p) (gridTop s) && t) (range-grids slots c)
@@ -73,12 +69,6 @@ within-all r n (s ∷ slots) z c l k t = (
     parts : T (leb (gridIn s c .p) (gridTop s)) × T (rangeAll slots (gridsOf slots c))
     parts = both (leb (gridIn s c .p) (gridTop s)) (rangeAll slots (gridsOf slots c)) t
 
--- a book's slots and loads, as the reader makes them: n loads in all, of which `loads` are the first, with |Q| ≤ r P
-pub record Ready (r n : ℕ) (slots : List Slot) (loads : List Settings) : Type 0 where
-  pub for : SlotsFor n slots
-  pub few : length loads ≤ n
-  pub keeps : Every (Every (SettingKept (suc r))) loads
-
 -- all choices whose pairs are in range have a cell
 pub choices-within : (r n : ℕ) (slots : List Slot) (loads : List Settings) → Ready r n slots loads
     → Every (λ c. T (rangeAll slots (gridsOf slots c)) → WithinAll (suc r) slots (gridsOf slots c)) (choices loads)
@@ -88,16 +78,6 @@ choices-within r n slots loads h =
     (h .keeps)
 
 -- ---- what a cell holds: the best of the choices whose pairs are its own
-
--- the pairs are in range, and theirs is cell i
-abbrev pub hasCell : ℕ → List Slot → ℕ → List Power → Bool
-hasCell r slots i g = rangeAll slots g && eqb (indexOf r slots g) i
-
-abbrev pub cellBest : ℕ → List Slot → List Settings → ℕ → Option Key
-cellBest r slots loads i = bestAt slots (hasCell r slots i) loads
-
-abbrev pub cellCount : ℕ → List Slot → ℕ
-cellCount r slots = product (map (pairsAt r) slots)
 
 -- ---- H is the number of cells that hold something
 
@@ -190,7 +170,7 @@ best-cells r n slots loads h G f =
     at : (i : ℕ) → bestWhere (λ c. G (gridsOf slots c) && eqb (indexOf (suc r) slots (gridsOf slots c)) i) (choices loads)
         ≡ cond (G (gridAt (suc r) slots i)) (bestWhere (λ c. hasCell (suc r) slots i (gridsOf slots c)) (choices loads)) none
     at i =
-        ap (λ cs. bestKey (map keyOf cs))
+        ap (λ cs. bestKey (map choiceKey cs))
         (keep-same
         (λ c. G (gridsOf slots c) && eqb (indexOf (suc r) slots (gridsOf slots c)) i)
         (λ c. G (gridAt (suc r) slots i) && hasCell (suc r) slots i (gridsOf slots c))

@@ -13,13 +13,13 @@ use Rattle.model.specs.declared.Book.{Book}
 use Rattle.model.specs.Lists.{upto, Every}
 use Rattle.model.specs.Refusals.{done}
 use Rattle.model.specs.Book.{Power, noPower, Settings, Problem, readBook}
-use Rattle.model.specs.Choice.{powerIn}
-use Rattle.model.specs.Quick.{noSetting}
+use Rattle.model.specs.Choice.{powerIn, noSetting}
 use Rattle.model.specs.Values.{Held, raised, lowered, settingOf, powerOf, loadValue, bookValue, settingIn, settingsIn, problemOf}
 use Rattle.model.specs.Valid.{Numbered, Labelled, SettingSmall, ValidBook}
+use Rattle.model.specs.Index.{up, down}
 use Rattle.model.proofs.ListLaws.{every-at}
 use Rattle.model.proofs.UptoLaws.{suc-across, getD-upto, take-upto, upto-is}
-use Rattle.model.proofs.IntegerLaws.{split, sub-pos, sub-neg, up, down, abs-sub}
+use Rattle.model.proofs.IntegerLaws.{split, sub-pos, sub-neg, abs-sub}
 use Rattle.model.proofs.ReaderLaws.{book-valid}
 
 pub raised-back : (q : ℤ) → natAbs q ≤ 32768 → lowered (raised q) ≡ q

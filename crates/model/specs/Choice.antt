@@ -1,6 +1,9 @@
 -- Choices, their worth, code and true sums (document 01, "Choice, sums and grid").
-use Prim.Native.Nat.{ℕ, suc, _+_, _*_}
+use Prim.Native.Nat.{ℕ, zero, suc, _+_, _*_, _/_, _%_}
+use mathlib.Core.Bool.{cond}
 use mathlib.Core.List.{List, [], _∷_, _++_, map}
+use mathlib.Core.Option.{Option, none, some}
+use lib.Dec.{eqb}
 use lib.IntN.{ℤ, pos, negsuc, _+ℤ_}
 use lib.ListN.{getD}
 use Rattle.model.specs.Lists.{Mem}
@@ -36,6 +39,24 @@ worthOf (v ∷ c) = v .worth + worthOf c
 abbrev pub codeOf : Choice → ℕ
 codeOf [] = 0
 codeOf (v ∷ c) = v .number + 4 * codeOf c
+
+-- n digits to the base 4, the lowest first: the numbers c of n loads, from a code
+abbrev pub decode : ℕ → ℕ → List ℕ
+decode zero x = []
+decode (suc n) x = x % 4 ∷ decode n (x / 4)
+
+-- the setting with a number, if the load has it
+abbrev pub settingNumbered : ℕ → Settings → Option Setting
+settingNumbered n [] = none
+settingNumbered n (v ∷ vs) = cond (eqb (v .number) n) (some v) (settingNumbered n vs)
+
+-- the first setting of a load; every load that is read has one
+abbrev pub noSetting : Setting
+noSetting = record { number = 0; worth = 0; powers = [] }
+
+abbrev pub firstSetting : Settings → Setting
+firstSetting [] = noSetting
+firstSetting (v ∷ vs) = v
 
 abbrev pub plus : Power → Power → Power
 plus x y = record { p = x .p + y .p; q = x .q +ℤ y .q }

@@ -16,4 +16,6 @@ pub mod Program
 pub mod Demand
 pub mod Valid
 pub mod Values
+pub mod Index
+pub mod Cells
 pub mod Rounding

@@ -1,7 +1,7 @@
 -- The sheet reader (document 01, "Quick planner and sheet reader").
 use Prim.Native.Nat.{ℕ, suc, _+_, _*_, _^_, _<_}
 use mathlib.Core.Path.{_≡_}
-use mathlib.Core.Bool.{cond, not}
+use mathlib.Core.Bool.{not}
 use mathlib.Core.List.{List, [], _∷_}
 use mathlib.Core.Option.{Option, none, some}
 use lib.Dec.{eqb}
@@ -11,7 +11,7 @@ use Rattle.model.specs.Lists.{sameLists}
 use Rattle.model.specs.Frames.{field}
 use Rattle.model.specs.Refusals.{Result, refused, done, _⇒_, first, checked, andThen, numberOf}
 use Rattle.model.specs.Book.{Setting, Settings, Problem, readBook}
-use Rattle.model.specs.Choice.{Choice, IsChoice, codeOf, worthOf}
+use Rattle.model.specs.Choice.{Choice, IsChoice, codeOf, worthOf, settingNumbered}
 use Rattle.model.specs.Sheet.{sheetBytes}
 
 -- a sheet that belongs to a book: its "bytes are exactly those that some choice and some trials number from 0 to 2^32 - 1 give for this book"
@@ -27,11 +27,6 @@ pub record SheetData : Type 0 where
   pub code : ℕ
   pub worth : ℕ
   pub trials : ℕ
-
--- the setting with a number, if the load has it
-abbrev pub settingNumbered : ℕ → Settings → Option Setting
-settingNumbered n [] = none
-settingNumbered n (v ∷ vs) = cond (eqb (v .number) n) (some v) (settingNumbered n vs)
 
 abbrev pub consBoth : Option Setting → Option Choice → Option Choice
 consBoth none c = none

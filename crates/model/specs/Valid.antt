@@ -7,6 +7,7 @@ use lib.ListN.{length}
 use Rattle.model.specs.Lists.{Every}
 use Rattle.model.specs.Book.{noPower, Setting, Settings, Problem}
 use Rattle.model.specs.Choice.{powerIn}
+use Rattle.model.specs.Grid.{Slot}
 
 -- |Q| ≤ r P in every slot; document 01 has "|Q| ≤ P", which is r = 1
 abbrev pub SettingKept : ℕ → Setting → Type 0
@@ -54,3 +55,20 @@ pub record ValidBook (b : Problem) : Type 0 where
   pub fine-few : b .fineness ≤ 64
   pub budget-small : b .budget < 2 ^ 32
   pub limits-small : Every (λ s. s < 65536) (b .limits)
+
+-- ---- what the search asks of slots and loads
+
+-- what the slots of a book for n loads have
+abbrev pub SlotsFor : ℕ → List Slot → Type 0
+SlotsFor n [] = Unit {0}
+SlotsFor n (s ∷ slots) = ((0 < s .step) × (s .loads ≡ n)) × SlotsFor n slots
+
+-- a book's slots and loads, as the reader makes them: n loads in all, of which `loads` are the first, with |Q| ≤ (r + 1) P
+pub record Ready (r n : ℕ) (slots : List Slot) (loads : List Settings) : Type 0 where
+  pub for : SlotsFor n slots
+  pub few : length loads ≤ n
+  pub keeps : Every (Every (SettingKept (suc r))) loads
+
+-- a setting adds at most `top` to the worth, and its number is at most 3
+abbrev pub SettingBelow : ℕ → Setting → Type 0
+SettingBelow top v = (v .worth ≤ top) × (v .number ≤ 3)

@@ -1,5 +1,5 @@
 -- What the values of the declared types Load, Book and Reading hold (src/lib.rt).
-use Prim.Native.Nat.{ℕ, _+_, _-_, _*_, _/_, _%_, _<_}
+use Prim.Native.Nat.{ℕ, suc, _+_, _-_, _*_, _/_, _%_, _<_}
 use mathlib.Core.Path.{_≡_}
 use mathlib.Core.List.{List, [], map}
 use lib.IntN.{ℤ, pos, negsuc, subℕ}
@@ -10,9 +10,8 @@ use Rattle.model.specs.declared.Reading.{Reading}
 use Rattle.model.specs.Lists.{upto}
 use Rattle.model.specs.Refusals.{Result, refused, done, numberOf}
 use Rattle.model.specs.Book.{Power, Setting, Settings, Problem}
-use Rattle.model.specs.Choice.{Choice, powerIn}
+use Rattle.model.specs.Choice.{Choice, powerIn, noSetting}
 use Rattle.model.specs.Valid.{ValidBook}
-use Rattle.model.specs.Quick.{noSetting}
 
 -- Q + 32,768, which is not negative for a Q of 16 bits
 unfoldable pub raised : ℤ → ℕ
@@ -22,6 +21,11 @@ raised (negsuc n) = 32767 - n
 -- the Q that is held as n
 abbrev pub lowered : ℕ → ℤ
 lowered n = subℕ n 32768
+
+-- q + 32,768 n, which is not negative for the sum of n reactive powers of 16 bits
+unfoldable pub raisedBy : ℕ → ℤ → ℕ
+raisedBy n (pos k) = k + 32768 * n
+raisedBy n (negsuc k) = 32768 * n - suc k
 
 -- setting c of a load
 abbrev pub settingOf : Settings → ℕ → Setting

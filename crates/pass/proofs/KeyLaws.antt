@@ -9,9 +9,7 @@ use native.Mathlib.Nat.{add-zero, add-suc}
 use native.Mathlib.Omega.{arith}
 use borrow.Author.Tests.{ne-eqb, lt-ltb, le-ltb}
 use lib.Dec.{ltb, eqb}
-use Rattle.model.proofs.OrderLaws.{Key, beats, join, shift?}
-use Rattle.model.proofs.CellLaws.{joinUpto}
-use Rattle.model.proofs.RowLaws.{Bounded}
+use Rattle.model.specs.Cells.{Key, beats, join, shift?, joinUpto, Bounded}
 use Rattle.table.specs.declared.Cell.{Cell}
 use Rattle.table.specs.Table.{keyIf, keyOf, raised, offered, empty, Room}
 use Rattle.model.proofs.IntegerLaws.{split}

@@ -13,9 +13,8 @@ use borrow.Author.Count.{below-more}
 use lib.Dec.{leb, ltb}
 use lib.ListN.{getD, set, length, length-set}
 use lib.Seq.{getD-set-same, getD-set-other}
-use Rattle.model.proofs.OrderLaws.{Key, join, shift?}
-use Rattle.model.proofs.CellLaws.{joinUpto, isSome, countUpto, upto-none}
-use Rattle.model.proofs.RowLaws.{Bounded}
+use Rattle.model.specs.Cells.{Key, join, shift?, joinUpto, isSome, countUpto, Bounded}
+use Rattle.model.proofs.CellLaws.{upto-none}
 use Rattle.table.specs.Table.{cellAt, keyOf, Rows, reached}
 use Rattle.model.proofs.IntegerLaws.{split}
 use Rattle.pass.specs.declared.SettingMove.{SettingMove}

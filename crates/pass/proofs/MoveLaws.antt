@@ -9,8 +9,7 @@ use native.Mathlib.Nat.{le-antisymm}
 use native.Mathlib.Numerals.{add-one}
 use native.Mathlib.Omega.{arith}
 use lib.ListN.{getD}
-use Rattle.model.proofs.OrderLaws.{Key, shift?}
-use Rattle.model.proofs.RowLaws.{Bounded}
+use Rattle.model.specs.Cells.{Key, shift?, Bounded}
 use Rattle.table.specs.Table.{cellAt, keyOf, offered, offeredRow, Filled, Roomy, Rows}
 use Rattle.model.proofs.IntegerLaws.{split}
 use Rattle.pass.specs.declared.SettingMove.{SettingMove}

@@ -7,7 +7,7 @@ use mathlib.Core.Logic.{_⊎_, inl, inr, ⊎-elim}
 use native.Mathlib.Nat.{add-zero}
 use native.Mathlib.Omega.{arith}
 use borrow.Author.Tests.{lt-ltb, le-ltb, le-leb, lt-leb}
-use Rattle.model.proofs.OrderLaws.{Key, shift?}
+use Rattle.model.specs.Cells.{Key, shift?}
 use Rattle.model.proofs.IntegerLaws.{split}
 use Rattle.table.specs.Table.{cellAt, keyOf, carriedRow, noCell, Filled}
 use Rattle.pass.specs.declared.Grid.{Grid}

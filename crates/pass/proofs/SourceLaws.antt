@@ -10,9 +10,8 @@ use native.Mathlib.Omega.{arith}
 use borrow.Author.Tests.{le-leb, lt-leb, lt-ltb, le-ltb, leb-true, ltb-true}
 use lib.Dec.{leb, ltb}
 use lib.ListN.{getD, length}
-use Rattle.model.proofs.OrderLaws.{Key, shift?}
+use Rattle.model.specs.Cells.{Key, shift?, Bounded}
 use Rattle.model.proofs.ListLaws.{both-true}
-use Rattle.model.proofs.RowLaws.{Bounded}
 use Rattle.table.specs.Table.{cellAt, keyOf, Rows}
 use Rattle.pass.specs.declared.SettingMove.{SettingMove}
 use Rattle.pass.specs.declared.Grid.{Grid}

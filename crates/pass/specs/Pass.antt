@@ -7,9 +7,7 @@ use mathlib.Core.List.{List, []}
 use mathlib.Core.Option.{Option, none, some}
 use lib.ListN.{getD, length}
 use lib.Dec.{ltb, leb}
-use Rattle.model.proofs.OrderLaws.{Key, shift?}
-use Rattle.model.proofs.CellLaws.{joinUpto, isSome, countUpto}
-use Rattle.model.proofs.RowLaws.{Bounded}
+use Rattle.model.specs.Cells.{Key, shift?, joinUpto, isSome, countUpto, Bounded}
 use Rattle.table.specs.Table.{cellAt, keyOf}
 use Rattle.pass.specs.declared.SettingMove.{SettingMove}
 use Rattle.pass.specs.declared.Grid.{Grid}

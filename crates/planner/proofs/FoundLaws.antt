@@ -8,15 +8,14 @@ use Prim.Native.Nat.{ℕ}
 use lib.ListN.{length, take}
 use Rattle.model.specs.declared.Book.{Book}
 use Rattle.model.specs.Refusals.{done}
-use Rattle.model.specs.Choice.{Choice, codeOf}
+use Rattle.model.specs.Choice.{Choice, codeOf, decode}
 use Rattle.model.specs.Grid.{plan}
 use Rattle.model.specs.Sheet.{sheetOf}
 use Rattle.model.specs.Calls.{planSheet}
 use Rattle.model.specs.Values.{Held, problemOf, Picked, choiceOf}
-use Rattle.model.proofs.CodeLaws.{decode}
 use Rattle.model.proofs.PlanLaws.{plan-is}
 use Rattle.model.proofs.ReaderLaws.{plan-some}
-use Rattle.sums.proofs.HeldLaws.{held-valid, held-count}
+use Rattle.model.proofs.HeldLaws.{held-valid, held-count}
 use Rattle.planner.specs.declared.Search.{Search}
 use Rattle.planner.specs.Planner.{Found}
 use Rattle.planner.proofs.PickLaws.{code-picked, code-choice}

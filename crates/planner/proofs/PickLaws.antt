@@ -11,13 +11,12 @@ use lib.ListN.{length, getD, take, set, List·getD-map}
 use lib.Seq.{take-suc-set, getD-take}
 use Rattle.model.specs.Lists.{Mem, upto}
 use Rattle.model.specs.Book.{Setting, Settings, Problem}
-use Rattle.model.specs.Choice.{Choice, IsChoice, codeOf}
-use Rattle.model.specs.Quick.{noSetting}
+use Rattle.model.specs.Choice.{Choice, IsChoice, codeOf, noSetting, decode}
 use Rattle.model.specs.Valid.{Numbered, Labelled, ValidBook}
 use Rattle.model.specs.Values.{settingOf, Picked, choiceOf}
 use Rattle.model.proofs.ListLaws.{every-at}
 use Rattle.model.proofs.UptoLaws.{upto-is, suc-across}
-use Rattle.model.proofs.CodeLaws.{decode, code-back}
+use Rattle.model.proofs.CodeLaws.{code-back}
 use Rattle.model.proofs.PlanLaws.{chosen-length}
 
 -- ---- the digits of a code, one after the other

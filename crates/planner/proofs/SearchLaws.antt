@@ -15,15 +15,15 @@ use Rattle.model.specs.Choice.{Choice, codeOf}
 use Rattle.model.specs.Grid.{Slot, slotsOf, bestAdmitted, plan}
 use Rattle.model.specs.Trials.{neededWords, WordsKept, trials, trialsUpto}
 use Rattle.model.specs.Values.{Held, problemOf}
-use Rattle.model.proofs.OrderLaws.{Key}
+use Rattle.model.specs.Cells.{Key}
 use Rattle.model.proofs.RecurrenceLaws.{key?}
+use Rattle.model.proofs.HeldLaws.{held-valid, held-count}
 use Rattle.table.specs.declared.Cell.{Cell}
 use Rattle.table.specs.Table.{keyOf, keyIf}
 use Rattle.pass.specs.declared.Grid.{Grid}
 use Rattle.search.specs.Search.{TopsAre, SlotsIn, Modelled, Places, Searched, trialsOf}
 use Rattle.layout.specs.declared.Layout.{Layout}
 use Rattle.layout.specs.Layout.{LayoutIs}
-use Rattle.sums.proofs.HeldLaws.{held-valid, held-count}
 use Rattle.scan.specs.Scan.{SlotSmall, SlotsHeld, bestOfLayer}
 use Rattle.scan.proofs.ScanLaws.{slots-held, scan-finds, slots-small}
 use Rattle.planner.specs.Planner.{Found}

@@ -2,15 +2,13 @@
 use Prim.Native.Nat.{ℕ, _<_, _≤_}
 use mathlib.Core.Path.{_≡_}
 use mathlib.Core.Bool.{true, false}
-use mathlib.Core.List.{List, _++_}
 use mathlib.Core.Option.{some}
-use Rattle.model.specs.Frames.{digits}
-use Rattle.model.specs.Refusals.{Result, done, first, checked, andThen}
+use Rattle.model.specs.Refusals.{Result, andThen}
 use Rattle.model.specs.Book.{Problem}
 use Rattle.model.specs.Choice.{Choice, codeOf}
 use Rattle.model.specs.Grid.{plan}
 use Rattle.model.specs.Trials.{trials}
-use Rattle.model.specs.Sheet.{Sheet, lf}
+use Rattle.model.specs.Sheet.{Sheet}
 use Rattle.model.specs.Calls.{fitting, planSheet}
 use Rattle.planner.specs.declared.Search.{Search}
 

@@ -18,7 +18,7 @@ ghost use Rattle.model.specs.Sheet.{sheetLength};
 ghost use Rattle.model.specs.Calls.{answerOf, bufferAfter, planSheet, plannerResult, fitting, freeFor, freeWords};
 ghost use Rattle.model.specs.Demand.{Demand3};
 ghost use Rattle.model.specs.Values.{Held, problemOf};
-ghost use Rattle.model.proofs.CodeLaws.{decode};
+ghost use Rattle.model.specs.Choice.{decode};
 ghost use Rattle.search.specs.Search.{SlotsIn};
 ghost use Rattle.planner.specs.Planner.{Found, fittedPlan};
 

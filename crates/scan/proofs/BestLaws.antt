@@ -11,10 +11,10 @@ use borrow.Author.Tests.{eq-eqb, ne-eqb, lt-ltb, le-ltb, ltb-true, ltb-false}
 use lib.Dec.{ltb}
 use lib.ListN.{getD}
 use Rattle.model.specs.Grid.{Slot}
-use Rattle.model.proofs.OrderLaws.{Key, join, join-none, join-assoc, lt-of-not}
-use Rattle.model.proofs.CellLaws.{joinUpto, upto-none}
-use Rattle.model.proofs.IndexLaws.{gridFrom}
-use Rattle.model.proofs.RecurrenceLaws.{admitsAll}
+use Rattle.model.specs.Cells.{Key, join, joinUpto, admitsAll}
+use Rattle.model.specs.Index.{gridFrom}
+use Rattle.model.proofs.OrderLaws.{join-none, join-assoc, lt-of-not}
+use Rattle.model.proofs.CellLaws.{upto-none}
 use Rattle.table.specs.declared.Cell.{Cell}
 use Rattle.table.specs.Table.{cellAt, keyIf, keyOf}
 use Rattle.pass.proofs.SourceLaws.{held-in, held-low, held-high}

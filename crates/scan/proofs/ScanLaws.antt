@@ -14,11 +14,12 @@ use lib.Seq.{take-all}
 use Rattle.model.specs.Lists.{Every}
 use Rattle.model.specs.Book.{Power, Problem}
 use Rattle.model.specs.Grid.{Slot, slotsFrom, slotsOf, bestAdmitted}
-use Rattle.model.proofs.OrderLaws.{Key, join, join-none, join-assoc}
-use Rattle.model.proofs.CellLaws.{joinUpto}
-use Rattle.model.proofs.IndexLaws.{columnCount, gridFrom, gridAt}
-use Rattle.model.proofs.RecurrenceLaws.{key?, admitsAll}
-use Rattle.model.proofs.TableLaws.{cellBest, plan-cells}
+use Rattle.model.specs.Cells.{Key, join, joinUpto, admitsAll, cellBest}
+use Rattle.model.specs.Index.{columnCount, gridFrom}
+use Rattle.model.proofs.OrderLaws.{join-none, join-assoc}
+use Rattle.model.proofs.IndexLaws.{gridAt}
+use Rattle.model.proofs.RecurrenceLaws.{key?}
+use Rattle.model.proofs.TableLaws.{plan-cells}
 use Rattle.table.specs.declared.Cell.{Cell}
 use Rattle.table.specs.Table.{keyOf}
 use Rattle.pass.specs.declared.Grid.{Grid}

@@ -14,11 +14,11 @@ use lib.Seq.{drop-cons, drop-length}
 use Rattle.model.specs.Choice.{square}
 use Rattle.model.specs.Grid.{Slot, admits, leastAbs}
 use Rattle.model.specs.Trials.{gridTop}
+use Rattle.model.specs.Valid.{SlotsFor}
+use Rattle.model.specs.Index.{depthOf, widthOf, pairAt, gridFrom}
+use Rattle.model.specs.Cells.{admitsAll}
 use Rattle.model.proofs.IntegerLaws.{sub-pos, sub-neg}
 use Rattle.model.proofs.ListLaws.{every-at}
-use Rattle.model.proofs.AdmissionLaws.{SlotsFor}
-use Rattle.model.proofs.IndexLaws.{depthOf, widthOf, pairAt, gridFrom}
-use Rattle.model.proofs.RecurrenceLaws.{admitsAll}
 use Rattle.search.specs.Search.{SlotsIn}
 use Rattle.scan.specs.Scan.{PairFits, SlotSmall, SlotsHeld}
 

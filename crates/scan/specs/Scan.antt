@@ -7,11 +7,9 @@ use mathlib.Core.Option.{Option, none}
 use lib.ListN.{length}
 use Rattle.model.specs.Lists.{Every}
 use Rattle.model.specs.Grid.{Slot}
-use Rattle.model.proofs.OrderLaws.{Key, join}
-use Rattle.model.proofs.CellLaws.{joinUpto}
-use Rattle.model.proofs.AdmissionLaws.{SlotsFor}
-use Rattle.model.proofs.IndexLaws.{gridFrom}
-use Rattle.model.proofs.RecurrenceLaws.{admitsAll}
+use Rattle.model.specs.Cells.{Key, join, joinUpto, admitsAll}
+use Rattle.model.specs.Valid.{SlotsFor}
+use Rattle.model.specs.Index.{gridFrom}
 use Rattle.table.specs.declared.Cell.{Cell}
 use Rattle.table.specs.Table.{keyOf}
 use Rattle.pass.specs.declared.Grid.{Grid}

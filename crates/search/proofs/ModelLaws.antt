@@ -16,17 +16,16 @@ use Rattle.model.specs.Lists.{Every}
 use Rattle.model.specs.Book.{Setting, Settings}
 use Rattle.model.specs.Grid.{Slot}
 use Rattle.model.specs.Trials.{gridTop}
-use Rattle.model.specs.Quick.{noSetting}
-use Rattle.model.proofs.OrderLaws.{Key, shift?}
+use Rattle.model.specs.Choice.{noSetting}
+use Rattle.model.specs.Cells.{Key, shift?, settingGrids, joinUpto, isSome, countUpto, cellBest, Bounded}
+use Rattle.model.specs.Index.{rowCount, cellCount, columnUp, columnDown}
+use Rattle.model.specs.Valid.{SettingBelow}
 use borrow.Author.Tests.{le-leb, lt-leb}
 use Rattle.model.proofs.IntegerLaws.{split}
 use Rattle.model.proofs.ListLaws.{every-at, every-take}
-use Rattle.model.proofs.ChoiceLaws.{settingGrids}
 use Rattle.model.proofs.RecurrenceLaws.{step}
-use Rattle.model.proofs.CellLaws.{joinUpto, isSome, countUpto}
-use Rattle.model.proofs.IndexLaws.{rowCount, cells-area}
-use Rattle.model.proofs.TableLaws.{cellBest, cellCount}
-use Rattle.model.proofs.RowLaws.{coversAll, covers-le, columnUp, columnDown, sourceTest, sourceCell, rows-step, over-upto, SettingBelow, Bounded, cell-bounded, rows-few}
+use Rattle.model.proofs.IndexLaws.{cells-area}
+use Rattle.model.proofs.RowLaws.{coversAll, covers-le, sourceTest, sourceCell, rows-step, over-upto, cell-bounded, rows-few}
 use Rattle.pass.specs.declared.Grid.{Grid}
 use Rattle.pass.specs.declared.LoadMoves.{LoadMoves}
 use Rattle.pass.specs.declared.SettingMove.{SettingMove}

@@ -16,11 +16,12 @@ use lib.Seq.{getD-set-same, getD-set-other, getD-drop, ext-getD}
 use Rattle.model.specs.Lists.{keepIf, distinct, sameLists}
 use Rattle.model.specs.Grid.{Slot, gridsOf}
 use Rattle.model.specs.Trials.{gridTop, samePair, inRange, reachedCount}
+use Rattle.model.specs.Cells.{Key, cellBest}
+use Rattle.model.specs.Index.{rowIndex, columnIndex, columnCount, indexOf}
 use Rattle.model.proofs.IntegerLaws.{split}
-use Rattle.model.proofs.OrderLaws.{Key}
 use Rattle.model.proofs.CellLaws.{only}
-use Rattle.model.proofs.IndexLaws.{rowIndex, columnIndex, columnCount, indexOf, column-below}
-use Rattle.model.proofs.TableLaws.{cellBest, range-grids, within-all, reached-cells}
+use Rattle.model.proofs.IndexLaws.{column-below}
+use Rattle.model.proofs.TableLaws.{range-grids, within-all, reached-cells}
 use Rattle.model.proofs.LoopLaws.{range-none, cells-none, ready-take, trials-step}
 use Rattle.table.specs.Table.{cellAt, putAt, keyOf, Rows}
 use Rattle.table.proofs.WordLaws.{get-same, get-other, length-put}

@@ -8,11 +8,10 @@ use Rattle.model.specs.Lists.{Every}
 use Rattle.model.specs.Book.{Setting, Settings}
 use Rattle.model.specs.Grid.{Slot, gridsOf}
 use Rattle.model.specs.Trials.{gridTop, trialsUpto}
-use Rattle.model.specs.Quick.{noSetting}
-use Rattle.model.proofs.ChoiceLaws.{settingGrid, settingGrids}
-use Rattle.model.proofs.IndexLaws.{widthOf, rowIndex, columnIndex, rowCount, columnCount}
-use Rattle.model.proofs.TableLaws.{Ready, cellBest, cellCount}
-use Rattle.model.proofs.RowLaws.{columnUp, columnDown, SettingBelow}
+use Rattle.model.specs.Choice.{noSetting}
+use Rattle.model.specs.Cells.{settingGrid, settingGrids, cellBest}
+use Rattle.model.specs.Index.{widthOf, rowIndex, columnIndex, rowCount, columnCount, cellCount, columnUp, columnDown}
+use Rattle.model.specs.Valid.{Ready, SettingBelow}
 use Rattle.table.specs.declared.Cell.{Cell}
 use Rattle.table.specs.Table.{cellAt}
 use Rattle.pass.specs.declared.Grid.{Grid}

@@ -13,10 +13,9 @@ use lib.Seq.{take-length, drop-length}
 use Rattle.model.specs.Lists.{upto, uptoFrom, concat}
 use Rattle.model.specs.Frames.{digits, unsigned}
 use Rattle.model.specs.Book.{Setting}
-use Rattle.model.specs.Choice.{Choice, worthOf, sumIn}
+use Rattle.model.specs.Choice.{Choice, worthOf, sumIn, noSetting}
 use Rattle.model.specs.Grid.{slotsFrom}
 use Rattle.model.specs.Sheet.{lf, numbersOf, firstLine, slotLine, slotLines}
-use Rattle.model.specs.Quick.{noSetting}
 use Rattle.model.proofs.ListLaws.{length-concat}
 use Rattle.model.proofs.UptoLaws.{upto-last, suc-across}
 use Rattle.model.proofs.FrameLaws.{length-digits}

@@ -24,12 +24,11 @@ use Rattle.model.specs.Lists.{Every, upto, sameLists}
 use Rattle.model.specs.Frames.{field, unsigned}
 use Rattle.model.specs.Refusals.{Result, refused, done, _⇒_, first, checked, andThen}
 use Rattle.model.specs.Book.{Setting, Settings, Problem, readBook}
-use Rattle.model.specs.Choice.{Choice, IsChoice, worthOf, sumIn}
+use Rattle.model.specs.Choice.{Choice, IsChoice, worthOf, sumIn, noSetting, settingNumbered}
 use Rattle.model.specs.Grid.{slotsOf}
 use Rattle.model.specs.Sheet.{slotLines, sheetBytes, sheetLength, sheetOf}
 use Rattle.model.specs.Calls.{bufferAfter}
-use Rattle.model.specs.Quick.{noSetting}
-use Rattle.model.specs.SheetReader.{settingNumbered, consBoth, choiceFrom, trialsOn, readAs, sheetData, readerResult, sheetAnswerOf}
+use Rattle.model.specs.SheetReader.{consBoth, choiceFrom, trialsOn, readAs, sheetData, readerResult, sheetAnswerOf}
 use Rattle.model.specs.Valid.{Numbered, Labelled, ValidBook}
 use Rattle.model.specs.Values.{Held, Picked, settingOf, loadValue, readingOf, choiceOf, problemOf}
 use Rattle.model.proofs.ListLaws.{every-at, same-eq, same-refl}
@@ -39,13 +38,13 @@ use Rattle.model.proofs.RefusalLaws.{first-here, first-last}
 use Rattle.model.proofs.PlanLaws.{chosen-length}
 use Rattle.model.proofs.SheetLaws.{sheet-length, choice-is, choice-back, dataOf}
 use Rattle.model.proofs.ValueLaws.{numbered-at}
+use Rattle.model.proofs.RaisedLaws.{raised-less}
+use Rattle.model.proofs.HeldLaws.{held-valid, held-count, held-few, held-slots, held-four, held-limit, held-load}
 use Rattle.hex.specs.Written.{written}
 use Rattle.hex.proofs.WrittenLaws.{written-start}
 use Rattle.sums.specs.declared.Sums.{Sums}
 use Rattle.sums.specs.Sums.{sumsValue}
-use Rattle.sums.proofs.RaisedLaws.{raised-less}
 use Rattle.sums.proofs.SumsLaws.{reactive-sum, sums-active, sums-reactive, choice-small, choice-sums}
-use Rattle.sums.proofs.HeldLaws.{held-valid, held-count, held-few, held-slots, held-four, held-limit, held-load}
 use Rattle.sums.proofs.PickLaws.{picked-choice}
 use Rattle.sheet.specs.Lines.{firstBytes, slotsBytes}
 use Rattle.sheet.specs.FirstLine.{PicksOn}

@@ -14,12 +14,12 @@ use Rattle.model.specs.Book.{Problem}
 use Rattle.model.specs.Choice.{Choice, sumIn, square, apparentSquared}
 use Rattle.model.specs.Grid.{slotsFrom, slotsOf, keepsLimits}
 use Rattle.model.specs.Valid.{SettingSmall}
-use Rattle.model.specs.Values.{Held, problemOf}
+use Rattle.model.specs.Values.{Held, problemOf, raisedBy}
 use Rattle.model.proofs.AdmissionLaws.{square-abs}
+use Rattle.model.proofs.RaisedLaws.{raised-abs}
+use Rattle.model.proofs.HeldLaws.{held-count, held-limit}
 use Rattle.sums.specs.declared.Sums.{Sums}
-use Rattle.sums.specs.Sums.{raisedBy, sumsValue}
-use Rattle.sums.proofs.RaisedLaws.{raised-abs}
-use Rattle.sums.proofs.HeldLaws.{held-count, held-limit}
+use Rattle.sums.specs.Sums.{sumsValue}
 use Rattle.sums.proofs.SumsLaws.{reactive-sum, sums-active, sums-reactive}
 
 -- the limits from slot s on are kept

@@ -11,18 +11,17 @@ use Rattle.model.specs.declared.Load.{Load}
 use Rattle.model.specs.declared.Book.{Book}
 use Rattle.model.specs.Lists.{Mem, Every, uptoFrom, upto}
 use Rattle.model.specs.Book.{Setting, Settings, Problem}
-use Rattle.model.specs.Choice.{Choice, IsChoice, worthOf, codeOf}
-use Rattle.model.specs.Quick.{noSetting}
+use Rattle.model.specs.Choice.{Choice, IsChoice, worthOf, codeOf, noSetting}
 use Rattle.model.specs.Valid.{Labelled, SettingSmall, ValidBook}
 use Rattle.model.specs.Values.{Held, problemOf, settingOf, loadValue, choiceOf, Picked, settingIn, settingsIn}
 use Rattle.model.proofs.ListLaws.{every-imp, every-at, every-image}
 use Rattle.model.proofs.UptoLaws.{suc-across, upto-last, length-upto, getD-upto}
 use Rattle.model.proofs.ChoiceLaws.{snoc, worth-last, worth-most}
 use Rattle.model.proofs.ValueLaws.{value-kept}
+use Rattle.model.proofs.HeldLaws.{held-valid, held-count, held-few, held-load, setting-small, loads-small}
 use Rattle.sums.specs.declared.Sums.{Sums}
 use Rattle.sums.specs.Sums.{sumsValue, added, CanAdd}
-use Rattle.sums.proofs.HeldLaws.{held-valid, held-count, held-few, held-load}
-use Rattle.sums.proofs.SumsLaws.{setting-small, loads-small, mem-at, added-last, can-add}
+use Rattle.sums.proofs.SumsLaws.{mem-at, added-last, can-add}
 
 abbrev pub pickOf : Problem → List ℕ → ℕ → Setting
 pickOf b picks k = settingOf (getD (b .loads) k []) (getD picks k 0)

@@ -10,18 +10,17 @@ use lib.IntN.{natAbs}
 use lib.ListN.{length, getD, set, length-append, length-set}
 use Rattle.model.specs.Lists.{Mem, Every, upto}
 use Rattle.model.specs.Book.{Power, Setting, Settings, Problem}
-use Rattle.model.specs.Choice.{Choice, IsChoice, plus, powerIn, sumIn}
-use Rattle.model.specs.Quick.{noSetting}
+use Rattle.model.specs.Choice.{Choice, IsChoice, plus, powerIn, sumIn, noSetting}
 use Rattle.model.specs.Valid.{Labelled, SettingSmall, ValidBook}
-use Rattle.model.specs.Values.{raised, settingOf, powerOf, loadValue}
-use Rattle.model.proofs.ListLaws.{every-mem, every-getD, every-at}
+use Rattle.model.specs.Values.{raised, settingOf, loadValue, raisedBy}
+use Rattle.model.proofs.ListLaws.{every-mem, every-at}
 use Rattle.model.proofs.UptoLaws.{length-upto, getD-upto, upto-is}
 use Rattle.model.proofs.ChoiceLaws.{snoc, sum-last, choice-every}
 use Rattle.model.proofs.PlanLaws.{chosen-length}
-use Rattle.model.proofs.ValueLaws.{power-at}
 use Rattle.model.proofs.QuickLaws.{sum-set}
-use Rattle.sums.specs.Sums.{raisedBy, sumsValue, added, exchanged, SumsSmall, LoadSmall, CanAdd, CanExchange}
-use Rattle.sums.proofs.RaisedLaws.{raised-one, raised-plus, abs-plus, raised-most}
+use Rattle.model.proofs.RaisedLaws.{raised-one, raised-plus, abs-plus, raised-most}
+use Rattle.model.proofs.HeldLaws.{setting-small, load-active, load-reactive, loads-small}
+use Rattle.sums.specs.Sums.{sumsValue, added, exchanged, SumsSmall, LoadSmall, CanAdd, CanExchange}
 
 -- two lists that agree at each place
 pub upto-same : {A : Type 0} (f g : ℕ → A) (n : ℕ) (d : A) → ((s : ℕ) → s < n → f s ≡ g s) → map f (upto n) ≡ map g (upto n)
@@ -30,12 +29,6 @@ upto-same f g n d h =
     ∙ upto-is f (map g (upto n)) d (λ i l. let k : i < n = omega (arith, length-upto g n) in h i k ∙ sym (getD-upto g n i d k))
 
 -- ---- small settings
-
-no-setting-small : SettingSmall noSetting
-no-setting-small = record { worth = omega arith; active = λ s. omega arith; reactive = λ s. omega arith }
-
-pub setting-small : (vs : Settings) → Every SettingSmall vs → (c : ℕ) → SettingSmall (settingOf vs c)
-setting-small vs h c = every-getD SettingSmall vs noSetting no-setting-small h c
 
 pub active-sum : (c : Choice) → Every SettingSmall c → (s : ℕ) → sumIn s c .p ≤ 65535 * length c
 active-sum [] h s = omega arith
@@ -70,19 +63,6 @@ sums-small c small few =
       active = λ s h. omega (arith, active-most c s h small few);
       reactive = λ s h. omega (arith, reactive-most c s h small few);
     }
-
-module _ (vs : Settings) (c s : ℕ) (places : c < 4) (four : s < 4) where
-  pub load-active : getD (loadValue vs .actives) (4 * c + s) 0 ≡ powerIn s (settingOf vs c) .p
-  unfolding loadValue
-  load-active =
-      getD-upto (λ i. powerOf vs i .p) 16 (4 * c + s) 0 (omega arith)
-      ∙ ap (λ (x : Power). x .p) (power-at vs c s four)
-
-  pub load-reactive : getD (loadValue vs .reactives) (4 * c + s) 0 ≡ raised (powerIn s (settingOf vs c) .q)
-  unfolding loadValue
-  load-reactive =
-      getD-upto (λ i. raised (powerOf vs i .q)) 16 (4 * c + s) 0 (omega arith)
-      ∙ ap (λ (x : Power). raised (x .q)) (power-at vs c s four)
 
 raised-setting : (v : Setting) → SettingSmall v → (s : ℕ) → raised (powerIn s v .q) ≤ 65536
 raised-setting v small s =
@@ -236,9 +216,6 @@ set-choice (vs ∷ loads) (u ∷ c) zero v m h n = (n, m .1)
 set-choice (vs ∷ loads) (u ∷ c) (suc k) v m h n = (m .0, set-choice loads c k v (m .1) (le-of-suc-le-suc h) n)
 
 module _ (b : Problem) (valid : ValidBook b) where
-  pub loads-small : (k : ℕ) → Every SettingSmall (getD (b .loads) k [])
-  loads-small k = every-getD (Every SettingSmall) (b .loads) [] tt (valid .loads .small) k
-
   module _ (c : Choice) (chosen : IsChoice (b .loads) c) where
     pub choice-small : Every SettingSmall c
     choice-small = choice-every (Every SettingSmall) SettingSmall (λ vs v h n. every-mem SettingSmall v vs n h) (b .loads) c (valid .loads .small) chosen
@@ -253,11 +230,11 @@ module _ (b : Problem) (valid : ValidBook b) where
     module _ (k : ℕ) (inside : k < length (b .loads)) (standing : getD c k noSetting ≡ settingOf (getD (b .loads) k []) 0) where
       pub choice-can-exchange : CanExchange (sumsValue c) (loadValue (getD (b .loads) k []))
       choice-can-exchange =
-          can-exchange c (getD (b .loads) k []) k choice-small (loads-small k) (omega (arith, chosen-length (b .loads) c chosen)) standing choice-few
+          can-exchange c (getD (b .loads) k []) k choice-small (loads-small b valid k) (omega (arith, chosen-length (b .loads) c chosen)) standing choice-few
 
       pub choice-exchanged : exchanged (sumsValue c) (loadValue (getD (b .loads) k [])) ≡ sumsValue (set c k (settingOf (getD (b .loads) k []) 1))
       choice-exchanged =
-          exchanged-set c (getD (b .loads) k []) k choice-small (loads-small k) (omega (arith, chosen-length (b .loads) c chosen)) standing
+          exchanged-set c (getD (b .loads) k []) k choice-small (loads-small b valid k) (omega (arith, chosen-length (b .loads) c chosen)) standing
 
       pub choice-set : IsChoice (b .loads) (set c k (settingOf (getD (b .loads) k []) 1))
       choice-set =

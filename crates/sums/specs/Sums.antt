@@ -1,17 +1,12 @@
 -- What a value of the declared type Sums holds, and what the methods of it do (src/lib.rt).
-use Prim.Native.Nat.{ℕ, suc, _+_, _-_, _*_, _<_, _≤_}
+use Prim.Native.Nat.{ℕ, _+_, _-_, _*_, _<_, _≤_}
 use mathlib.Core.List.{map}
-use lib.IntN.{ℤ, pos, negsuc}
 use lib.ListN.{length, getD}
 use Rattle.model.specs.declared.Load.{Load}
 use Rattle.model.specs.Lists.{upto}
 use Rattle.model.specs.Choice.{Choice, sumIn}
+use Rattle.model.specs.Values.{raisedBy}
 use Rattle.sums.specs.declared.Sums.{Sums}
-
--- q + 32,768 n, which is not negative for the sum of n reactive powers of 16 bits
-unfoldable pub raisedBy : ℕ → ℤ → ℕ
-raisedBy n (pos k) = k + 32768 * n
-raisedBy n (negsuc k) = 32768 * n - suc k
 
 -- the value that holds the true sums of a choice, slot by slot
 unfoldable pub sumsValue : Choice → Sums

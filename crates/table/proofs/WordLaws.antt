@@ -15,7 +15,7 @@ use Rattle.model.proofs.IntegerLaws.{split}
 use Rattle.table.specs.declared.Cell.{Cell}
 use borrow.Author.Count.{below-more}
 use native.Mathlib.Nat.{not-suc-le-zero, le-antisymm}
-use Rattle.model.proofs.CellLaws.{isSome, countUpto}
+use Rattle.model.specs.Cells.{isSome, countUpto}
 use Rattle.table.specs.Table.{cellAt, putAt, keyIf, keyOf, raised, offered, offeredAt, Room, Rows, Roomy, Filled, offeredRow, copiedRow, carriedRow, noCell, empty, reached}
 
 module _ (old src : Cell) (gain digit : ℕ) where

@@ -6,8 +6,7 @@ use mathlib.Core.List.{List}
 use mathlib.Core.Option.{Option, none, some}
 use lib.ListN.{getD, set, length}
 use lib.Dec.{leb, ltb, eqb}
-use Rattle.model.proofs.OrderLaws.{Key}
-use Rattle.model.proofs.CellLaws.{isSome}
+use Rattle.model.specs.Cells.{Key, isSome}
 use Rattle.table.specs.declared.Cell.{Cell}
 
 -- the cell x: words 2x and 2x + 1

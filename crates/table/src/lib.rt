@@ -4,7 +4,7 @@ ghost use Prim.Native.Nat.{_+_, _*_, _<_, _≤_};
 ghost use lib.ListN.{length};
 ghost use mathlib.Core.Bool.{cond, true};
 ghost use lib.Dec.{ltb};
-ghost use Rattle.model.proofs.CellLaws.{countUpto};
+ghost use Rattle.model.specs.Cells.{countUpto};
 ghost use Rattle.table.specs.Table.{cellAt, putAt, offered, offeredAt, Room, Rows, Roomy, Filled, offeredRow, copiedRow, carriedRow, noCell, reached};
 
 // A cell: `worth` is 0 where it is empty, and else one more than the worth of its choice; `code` is the code of its choice.

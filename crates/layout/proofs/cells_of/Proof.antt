@@ -8,9 +8,9 @@ use lib.ListN.{getD}
 use Rattle.model.specs.Grid.{slotsOf}
 use Rattle.model.specs.Trials.{cells}
 use Rattle.model.specs.Values.{problemOf}
+use Rattle.model.specs.Index.{cellCount}
 use Rattle.model.proofs.IndexLaws.{cells-one}
-use Rattle.model.proofs.TableLaws.{cellCount}
-use Rattle.sums.proofs.HeldLaws.{held-four}
+use Rattle.model.proofs.HeldLaws.{held-four}
 use Rattle.layout.proofs.SlotLaws.{slots-length, top-at, width-at, counts-small}
 use Rattle.layout.proofs.CountLaws.{Counted, counted-more, counted-over, counted-all}
 use Rattle.layout.proofs.cells_of.Statement.{statement}

@@ -6,7 +6,7 @@ use native.Mathlib.Omega.{arith}
 use borrow.Author.Needs.{needs}
 use lib.ListN.{getD, length, length-set}
 use Rattle.model.specs.Values.{problemOf}
-use Rattle.sums.proofs.HeldLaws.{held-few}
+use Rattle.model.proofs.HeldLaws.{held-few}
 use Rattle.search.specs.Search.{noMoves, movesOf, LoadIs}
 use Rattle.layout.specs.Layout.{Laid}
 use Rattle.layout.proofs.ArrayLaws.{set-each}

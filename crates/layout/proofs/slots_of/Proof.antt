@@ -5,7 +5,7 @@ use native.Mathlib.Nat.{div-le-self}
 use native.Mathlib.Omega.{arith}
 use borrow.Author.Needs.{needs}
 use lib.ListN.{getD}
-use Rattle.sums.proofs.HeldLaws.{held-few, held-four, held-limit-small}
+use Rattle.model.proofs.HeldLaws.{held-few, held-four, held-limit-small}
 use Rattle.layout.proofs.SlotLaws.{Filled, filled-none, filled-more, filled-all, count-some, fineness-some, fineness-few}
 use Rattle.layout.proofs.slots_of.Statement.{statement}
 use Rattle.layout.proofs.slots_of.Tie as tie

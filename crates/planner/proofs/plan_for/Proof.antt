@@ -1,11 +1,11 @@
 -- `planner::plan_for` meets its contract: refusal 12, or the sheet of what the search found. Assumes nothing.
 use mathlib.Core.Path.{sym, ap, _∙_}
 use Rattle.model.specs.Calls.{answerOf, bufferAfter}
-use Rattle.sums.proofs.HeldLaws.{held-few}
 use Rattle.planner.proofs.CallLaws.{plan-spent}
 use Rattle.planner.proofs.FoundLaws.{found-picked, found-sheet}
 use borrow.Author.Tests.{not-true, not-false}
 use borrow.Author.Needs.{needs}
+use Rattle.model.proofs.HeldLaws.{held-few}
 use Rattle.planner.proofs.plan_for.Statement.{statement}
 use Rattle.planner.proofs.plan_for.Tie as tie
 

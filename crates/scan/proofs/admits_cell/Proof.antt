@@ -5,8 +5,8 @@ use Prim.Native.Nat.{_-_, _≤_}
 use native.Mathlib.Omega.{arith}
 use borrow.Author.Needs.{needs}
 use borrow.Author.Tests.{not-true, not-false}
-use Rattle.model.proofs.IndexLaws.{gridFrom}
-use Rattle.model.proofs.RecurrenceLaws.{admitsAll}
+use Rattle.model.specs.Index.{gridFrom}
+use Rattle.model.specs.Cells.{admitsAll}
 use Rattle.scan.specs.Scan.{SlotsHeld}
 use Rattle.scan.proofs.SlotLaws.{admitsFrom, top-some, width-some, pair-held, from-stop, from-go, from-end}
 use Rattle.scan.proofs.admits_cell.Statement.{statement}

@@ -2,8 +2,8 @@
 use mathlib.Core.Path.{_∙_, sym}
 use borrow.Author.Needs.{needs}
 use borrow.Author.Tests.{not-true, not-false}
-use Rattle.model.proofs.IndexLaws.{gridFrom}
-use Rattle.model.proofs.RecurrenceLaws.{admitsAll}
+use Rattle.model.specs.Index.{gridFrom}
+use Rattle.model.specs.Cells.{admitsAll}
 use Rattle.scan.proofs.BestLaws.{best-kept, best-taken, best-refused}
 use Rattle.scan.proofs.better_at.Statement.{statement}
 use Rattle.scan.proofs.better_at.Tie as tie

@@ -5,8 +5,7 @@ use mathlib.Core.Logic.{⊎-elim}
 use Prim.Native.Nat.{_-_, _≤_}
 use native.Mathlib.Omega.{arith}
 use borrow.Author.Needs.{needs}
-use Rattle.model.proofs.OrderLaws.{join}
-use Rattle.model.proofs.CellLaws.{joinUpto}
+use Rattle.model.specs.Cells.{join, joinUpto}
 use Rattle.table.specs.Table.{keyOf}
 use Rattle.scan.specs.Scan.{SlotsHeld, admittedIn}
 use Rattle.scan.proofs.BestLaws.{row-start, row-next, row-less, row-past}

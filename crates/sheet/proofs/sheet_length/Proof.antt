@@ -1,6 +1,6 @@
 -- `sheet::sheet_length` meets its contract: the counts are those of the book. Assumes nothing.
-use Rattle.sums.proofs.HeldLaws.{held-count, held-few, held-slots, held-four}
 use native.Mathlib.Omega.{arith}
+use Rattle.model.proofs.HeldLaws.{held-count, held-few, held-slots, held-four}
 use Rattle.sheet.proofs.sheet_length.Statement.{statement}
 use Rattle.sheet.proofs.sheet_length.Tie as tie
 

@@ -1,9 +1,9 @@
 -- `sheet::write_sheet` meets its contract: the bytes written are the lines of the definitions. Assumes nothing.
 use mathlib.Core.Path.{_≡_, _∙_, sym}
-use Rattle.sums.proofs.HeldLaws.{held-count, held-few, held-slots, held-four}
 use Rattle.sheet.proofs.ReaderLaws.{reactive-room, sheet-left, bytes-length}
 use native.Mathlib.Omega.{arith}
 use borrow.Author.Needs.{needs}
+use Rattle.model.proofs.HeldLaws.{held-count, held-few, held-slots, held-four}
 use Rattle.sheet.proofs.write_sheet.Statement.{statement}
 use Rattle.sheet.proofs.write_sheet.Tie as tie
 

@@ -9,10 +9,10 @@ use Rattle.model.specs.Grid.{slotsOf, keepsLimits}
 use Rattle.model.specs.Valid.{SettingSmall}
 use Rattle.model.specs.Values.{problemOf}
 use Rattle.sums.specs.Sums.{sumsValue}
-use Rattle.sums.proofs.HeldLaws.{held-slots, held-few, held-four, held-limit-small}
 use Rattle.sums.proofs.KeepLaws.{keepsFrom, keeps-all, keeps-go, keeps-stop, keeps-end, entry-kept}
 use borrow.Author.Needs.{needs}
 use native.Mathlib.Omega.{arith}
+use Rattle.model.proofs.HeldLaws.{held-slots, held-few, held-four, held-limit-small}
 use Rattle.sums.proofs.keeps.Statement.{statement}
 use Rattle.sums.proofs.keeps.Tie as tie
 

@@ -3,7 +3,7 @@ use borrow.Author.Needs.{needs}
 use native.Mathlib.Omega.{arith}
 use Prim.Native.Nat.{_≤_, _-_}
 use mathlib.Core.Path.{_≡_, refl}
-use Rattle.model.proofs.CellLaws.{countUpto}
+use Rattle.model.specs.Cells.{countUpto}
 use Rattle.table.specs.Table.{reached}
 use Rattle.table.proofs.WordLaws.{counted-more, counted-all}
 use Rattle.table.proofs.count_row.Statement.{statement}

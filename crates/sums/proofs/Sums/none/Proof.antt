@@ -1,6 +1,7 @@
 -- `sums::Sums::none` meets its contract: both sides compute to the same arrays. Assumes nothing.
 use mathlib.Core.Path.{refl}
-use Rattle.sums.specs.Sums.{raisedBy, sumsValue}
+use Rattle.model.specs.Values.{raisedBy}
+use Rattle.sums.specs.Sums.{sumsValue}
 use Rattle.sums.proofs.Sums.none.Statement.{statement}
 use Rattle.sums.proofs.Sums.none.Tie as tie
 

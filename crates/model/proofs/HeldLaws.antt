@@ -1,0 +1,77 @@
+-- What is known of a value that holds a valid book, and of the settings that it holds.
+-- Assumes nothing.
+use mathlib.Core.Path.{_≡_, sym, ap, subst, _∙_}
+use mathlib.Core.List.{[]}
+use Prim.Native.Nat.{ℕ, _+_, _*_, _<_, _≤_}
+use native.Mathlib.Omega.{arith}
+use lib.ListN.{length, getD}
+use Rattle.model.specs.declared.Load.{Load}
+use Rattle.model.specs.declared.Book.{Book}
+use Rattle.model.specs.Valid.{ValidBook, SettingSmall}
+use Rattle.model.specs.Values.{Held, loadValue, bookValue, problemOf, settingOf, powerOf, raised}
+use Rattle.model.specs.Book.{Settings, Problem, Power}
+use Rattle.model.specs.Choice.{powerIn, noSetting}
+use Rattle.model.specs.Lists.{Every}
+use Rattle.model.proofs.ListLaws.{every-at, every-getD}
+use Rattle.model.proofs.UptoLaws.{getD-upto}
+use Rattle.model.proofs.ValueLaws.{held-kept, power-at}
+
+-- ---- the book
+
+module _ (v : Book) (h : Held v) where
+  pub held-valid : ValidBook (problemOf v)
+  held-valid = subst ValidBook (sym (held-kept v h)) (h .valid)
+
+  held-is : v ≡ bookValue (problemOf v)
+  held-is = h .is ∙ ap bookValue (sym (held-kept v h))
+
+  pub held-count : v .count ≡ length (problemOf v .loads)
+  unfolding bookValue
+  held-count = ap (λ (x : Book). x .count) held-is
+
+  pub held-few : v .count ≤ 24
+  held-few = omega (arith, held-count, held-valid .loads-few)
+
+  pub held-slots : v .slots ≡ length (problemOf v .limits)
+  unfolding bookValue
+  held-slots = ap (λ (x : Book). x .slots) held-is
+
+  pub held-four : v .slots ≤ 4
+  held-four = omega (arith, held-slots, held-valid .slots-few)
+
+  pub held-limit : (s : ℕ) → s < 4 → getD (v .limits) s 0 ≡ getD (problemOf v .limits) s 0
+  unfolding bookValue
+  held-limit s l = ap (λ (x : Book). getD (x .limits) s 0) held-is ∙ getD-upto (λ i. getD (problemOf v .limits) i 0) 4 s 0 l
+
+  pub held-limit-small : (s : ℕ) → s < v .slots → getD (v .limits) s 0 < 65536
+  held-limit-small s l =
+      omega (arith, held-four, held-limit s (omega (arith, held-four)), every-at (λ x. x < 65536) (problemOf v .limits) 0 (held-valid .limits-small) s (omega (arith, held-slots)))
+
+  pub held-load : (k : ℕ) (d : Load) → k < 24 → getD (v .loads) k d ≡ loadValue (getD (problemOf v .loads) k [])
+  unfolding bookValue
+  held-load k d l =
+      ap (λ (x : Book). getD (x .loads) k d) held-is ∙ getD-upto (λ i. loadValue (getD (problemOf v .loads) i [])) 24 k d l
+
+-- ---- settings
+
+no-setting-small : SettingSmall noSetting
+no-setting-small = record { worth = omega arith; active = λ s. omega arith; reactive = λ s. omega arith }
+
+pub setting-small : (vs : Settings) → Every SettingSmall vs → (c : ℕ) → SettingSmall (settingOf vs c)
+setting-small vs h c = every-getD SettingSmall vs noSetting no-setting-small h c
+
+pub loads-small : (b : Problem) → ValidBook b → (k : ℕ) → Every SettingSmall (getD (b .loads) k [])
+loads-small b valid k = every-getD (Every SettingSmall) (b .loads) [] tt (valid .loads .small) k
+
+module _ (vs : Settings) (c s : ℕ) (places : c < 4) (four : s < 4) where
+  pub load-active : getD (loadValue vs .actives) (4 * c + s) 0 ≡ powerIn s (settingOf vs c) .p
+  unfolding loadValue
+  load-active =
+      getD-upto (λ i. powerOf vs i .p) 16 (4 * c + s) 0 (omega arith)
+      ∙ ap (λ (x : Power). x .p) (power-at vs c s four)
+
+  pub load-reactive : getD (loadValue vs .reactives) (4 * c + s) 0 ≡ raised (powerIn s (settingOf vs c) .q)
+  unfolding loadValue
+  load-reactive =
+      getD-upto (λ i. raised (powerOf vs i .q)) 16 (4 * c + s) 0 (omega arith)
+      ∙ ap (λ (x : Power). raised (x .q)) (power-at vs c s four)
