@@ -10,19 +10,19 @@
 static inline const char *refusal_word(uint64_t number)
 {
     switch (number) {
-    case JADESHUTTLE_TORN: return "torn";
-    case JADESHUTTLE_SMUDGED: return "smudged";
-    case JADESHUTTLE_STRAY: return "stray";
-    case JADESHUTTLE_CROWDED: return "crowded";
-    case JADESHUTTLE_MISSHAPEN: return "misshapen";
-    case JADESHUTTLE_BEYOND: return "beyond";
-    case JADESHUTTLE_SLACK: return "slack";
-    case JADESHUTTLE_TRAILING: return "trailing";
-    case JADESHUTTLE_OVERSIZE: return "oversize";
-    case JADESHUTTLE_CRAMPED: return "cramped";
-    case JADESHUTTLE_NO_SHEET: return "no sheet";
-    case JADESHUTTLE_SPENT: return "spent";
-    case JADESHUTTLE_FOREIGN: return "foreign";
+    case JADESHUTTLE_UNTERMINATED: return "torn";
+    case JADESHUTTLE_NOT_HEX: return "smudged";
+    case JADESHUTTLE_WRONG_KIND: return "stray";
+    case JADESHUTTLE_SLOTS_OR_OPTIONS_OUT_OF_RANGE: return "crowded";
+    case JADESHUTTLE_WRONG_LENGTH: return "misshapen";
+    case JADESHUTTLE_LOADS_OR_FINENESS_OUT_OF_RANGE: return "beyond";
+    case JADESHUTTLE_REACTIVE_EXCEEDS_ACTIVE: return "slack";
+    case JADESHUTTLE_TRAILING_BYTES: return "trailing";
+    case JADESHUTTLE_TOO_MANY_CELLS: return "oversize";
+    case JADESHUTTLE_WORK_TOO_SMALL: return "cramped";
+    case JADESHUTTLE_BUFFER_TOO_SMALL: return "no sheet";
+    case JADESHUTTLE_BUDGET_EXCEEDED: return "spent";
+    case JADESHUTTLE_FOREIGN_SHEET: return "foreign";
     default: return "unknown";
     }
 }

@@ -68,28 +68,28 @@ extern "C" {
  * What `number` says. Lines are read in order, and on each line 1 to 7 are tried
  * in this order, as far as they concern it; then 8 to 13. The first that applies
  * is given. `line` is the number of the line in the book, from 1, for 1 to 8; it
- * is 0 for success and for 9 to 13.
+ * is 0 for success and for 9 to 13. Each comment begins with the handbook's word.
  */
 enum jadeshuttle_number {
     JADESHUTTLE_SUCCESS = 0,
     /* All three calls: the book. */
-    JADESHUTTLE_TORN = 1,      /* a line is due and no LF follows */
-    JADESHUTTLE_SMUDGED = 2,   /* a byte of the line is no digit 0-9 A-F */
-    JADESHUTTLE_STRAY = 3,     /* fewer than 4 digits, or kind not the one due */
-    JADESHUTTLE_CROWDED = 4,   /* T not 1 to 4; o not 1 to 3 */
-    JADESHUTTLE_MISSHAPEN = 5, /* number of digits not the stated one */
-    JADESHUTTLE_BEYOND = 6,    /* N not 1 to 24, or d not 1 to 64; line 1 */
-    JADESHUTTLE_SLACK = 7,     /* |Q| > P in some option and slot */
-    JADESHUTTLE_TRAILING = 8,  /* bytes remain after the last load line; line N + 2 */
+    JADESHUTTLE_UNTERMINATED = 1,                   /* torn: a line is due and no LF follows */
+    JADESHUTTLE_NOT_HEX = 2,                        /* smudged: a byte of the line is no digit 0-9 A-F */
+    JADESHUTTLE_WRONG_KIND = 3,                     /* stray: fewer than 4 digits, or kind not the one due */
+    JADESHUTTLE_SLOTS_OR_OPTIONS_OUT_OF_RANGE = 4,  /* crowded: T not 1 to 4; o not 1 to 3 */
+    JADESHUTTLE_WRONG_LENGTH = 5,                   /* misshapen: number of digits not the stated one */
+    JADESHUTTLE_LOADS_OR_FINENESS_OUT_OF_RANGE = 6, /* beyond: N not 1 to 24, or d not 1 to 64; line 1 */
+    JADESHUTTLE_REACTIVE_EXCEEDS_ACTIVE = 7,        /* slack: |Q| > P in some option and slot */
+    JADESHUTTLE_TRAILING_BYTES = 8,                 /* trailing: bytes remain after the last load line; line N + 2 */
     /* The planner only. */
-    JADESHUTTLE_OVERSIZE = 9, /* cells over 1,048,576 */
-    JADESHUTTLE_CRAMPED = 10, /* work area under 4 x cells words */
+    JADESHUTTLE_TOO_MANY_CELLS = 9,  /* oversize: cells over 1,048,576 */
+    JADESHUTTLE_WORK_TOO_SMALL = 10, /* cramped: work area under 4 x cells words */
     /* The planner and the quick planner. */
-    JADESHUTTLE_NO_SHEET = 11, /* buffer shorter than the sheet */
+    JADESHUTTLE_BUFFER_TOO_SMALL = 11, /* no sheet: buffer shorter than the sheet */
     /* The planner only. */
-    JADESHUTTLE_SPENT = 12, /* trials over the budget */
+    JADESHUTTLE_BUDGET_EXCEEDED = 12, /* spent: trials over the budget */
     /* The sheet reader only. */
-    JADESHUTTLE_FOREIGN = 13 /* no choice and no trials number give this sheet for this book */
+    JADESHUTTLE_FOREIGN_SHEET = 13 /* foreign: no choice and no trials number give this sheet for this book */
 };
 
 /* What the planners answer. With a refusal, bytes, worth and trials are 0. */

@@ -5,15 +5,15 @@ use crate::random::Random;
 /// A fault aimed at the given refusal of 1 to 8. What a damaged book is refused for in the end, the reference says.
 pub fn fault(random: &mut Random, text: &mut Vec<u8>, refusal: usize) {
     match refusal {
-        1 => tear(random, text),
-        6 => beyond(random, text),
+        1 => unterminated(random, text),
+        6 => loads_or_fineness_out_of_range(random, text),
         8 => text.extend_from_slice(random.pick(&[b"\n" as &[u8], b"0", b"0201\n", b"\0", b"\n\n", b"\xFF\n"])),
         _ => damage_line(random, text, refusal),
     }
 }
 
-/// Cuts the book short, often by its last LF alone.
-fn tear(random: &mut Random, text: &mut Vec<u8>) {
+/// A book cut short (torn), often by its last LF alone.
+fn unterminated(random: &mut Random, text: &mut Vec<u8>) {
     let left = match text.len() {
         0 => 0,
         length if random.one_in(2) => length - 1,
@@ -22,8 +22,8 @@ fn tear(random: &mut Random, text: &mut Vec<u8>) {
     text.truncate(left);
 }
 
-/// An N or a d outside its range.
-fn beyond(random: &mut Random, text: &mut [u8]) {
+/// An N or a d outside its range (beyond).
+fn loads_or_fineness_out_of_range(random: &mut Random, text: &mut [u8]) {
     let (at, digits) = random.pick(&[(4, b"00"), (4, b"19"), (4, b"FF"), (6, b"00"), (6, b"41"), (6, b"FF")]);
     put(text, at, digits);
 }
@@ -44,11 +44,11 @@ fn damage_line(random: &mut Random, text: &mut Vec<u8>, refusal: usize) {
     let n = random.below(lines.len());
     let line = &mut lines[n];
     match refusal {
-        2 => smudge(random, line),
-        3 => go_astray(random, line),
+        2 => not_hex(random, line),
+        3 => wrong_kind(random, line),
         4 => put(line, 2, random.pick(&[b"00", b"04", b"05", b"80", b"FF"])),
-        5 => misshape(random, line),
-        _ => slacken(random, line, slots),
+        5 => wrong_length(random, line),
+        _ => reactive_exceeds_active(random, line, slots),
     }
     *text = lines.concat();
 }
@@ -60,13 +60,14 @@ fn lines(text: &[u8]) -> Vec<Vec<u8>> {
         .collect()
 }
 
-fn smudge(random: &mut Random, line: &mut [u8]) {
+/// A byte that is no digit (smudged).
+fn not_hex(random: &mut Random, line: &mut [u8]) {
     let at = random.below(line.len());
     line[at] = random.pick(b"abcdefgGx/:@` \t\r\0\x7F\x80\xB0\xFF");
 }
 
-/// A kind that is not due, or fewer than 4 digits.
-fn go_astray(random: &mut Random, line: &mut Vec<u8>) {
+/// A kind that is not due, or fewer than 4 digits (stray).
+fn wrong_kind(random: &mut Random, line: &mut Vec<u8>) {
     if random.one_in(2) {
         put(line, 0, random.pick(&[b"00", b"01", b"02", b"03", b"10", b"12", b"FF"]));
     } else {
@@ -77,8 +78,8 @@ fn go_astray(random: &mut Random, line: &mut Vec<u8>) {
     }
 }
 
-/// Digits too many or too few, or another number of slots or options.
-fn misshape(random: &mut Random, line: &mut Vec<u8>) {
+/// Digits too many or too few, or another number of slots or options (misshapen).
+fn wrong_length(random: &mut Random, line: &mut Vec<u8>) {
     let at = line.len() - 1;
     match random.below(3) {
         0 => put(line, 2, random.pick(&[b"01", b"02", b"03", b"04"])),
@@ -87,8 +88,8 @@ fn misshape(random: &mut Random, line: &mut Vec<u8>) {
     }
 }
 
-/// A Q beyond P in one option and slot of a load line.
-fn slacken(random: &mut Random, line: &mut [u8], slots: usize) {
+/// A |Q| above P in one option and slot of a load line (slack).
+fn reactive_exceeds_active(random: &mut Random, line: &mut [u8], slots: usize) {
     let (slots, options) = (slots.max(1), line.len() / (4 + 8 * slots.max(1)));
     let option = 4 + random.below(options.max(1)) * (4 + 8 * slots);
     let at = option + 4 + 8 * random.below(slots);

@@ -33,8 +33,8 @@ pub fn book(random: &mut Random, bounds: Bounds) -> Book {
     filled(random, &limits, &options, fineness)
 }
 
-/// A book of more than 1,048,576 cells, by little or by much: for some the product passes 2^64.
-pub fn oversize(random: &mut Random) -> Book {
+/// A book of more than 1,048,576 cells (oversize), by little or by much: for some the product passes 2^64.
+pub fn too_many_cells(random: &mut Random) -> Book {
     loop {
         let (limits, options, fineness) = match random.below(4) {
             0 => fuller_table(random),

@@ -24,7 +24,7 @@ pub const KINDS: &[Kind] = &[
     kind("sheet buffers", 500, buffers),
     kind("several shortages", 550, shortages),
     kind("words of earlier plans", 350, earlier_words),
-    kind("oversize books", 350, oversize_books),
+    kind("oversize books", 350, too_many_cells),
     kind("1,048,576 cells", 2, full_tables),
     kind("one fault", 800, one_fault),
     kind("two faults", 600, two_faults),
@@ -85,7 +85,7 @@ fn case(book: &Book) -> Case {
     Case::new(draw::text(book))
 }
 
-/// The words that a plan needs. Books that grew large by damage get few, and are refused as cramped.
+/// The words that a plan needs. Books that grew large by damage get few, and the work area is too small (10).
 fn needed_words(case: &Case) -> usize {
     match 4 * case.cells() {
         need @ 0..=250_000 => need as usize,
@@ -236,8 +236,8 @@ fn earlier_words(session: &mut Session) {
 }
 
 /// The planner refuses them, also where words or buffer are short too; the quick planner and the sheet reader do not.
-fn oversize_books(session: &mut Session) {
-    let mut book = draw::oversize(&mut session.random);
+fn too_many_cells(session: &mut Session) {
+    let mut book = draw::too_many_cells(&mut session.random);
     book.budget = session.random.pick(&[0, 100, 0xFFFF_FFFF]);
     let case = case(&book);
     let buffer = session.random.pick(&[0, case.sheet_bytes()]);

@@ -129,8 +129,8 @@ impl Case {
 
     fn reading_or_refusal(&self, sheet: &[u8]) -> Result<Outcome, Refusal> {
         let book = self.book.as_ref().map_err(|refusal| *refusal)?;
-        let foreign = Refusal { number: 13, line: 0 };
-        let (choice, trials) = sheet::read(book, sheet).ok_or(foreign)?;
+        let foreign_sheet = Refusal { number: 13, line: 0 };
+        let (choice, trials) = sheet::read(book, sheet).ok_or(foreign_sheet)?;
         let answer = Reading {
             worth: book.worth(&choice),
             trials,
@@ -212,7 +212,7 @@ mod tests {
     }
 
     #[test]
-    fn both_run_within_the_slack() {
+    fn both_run_within_the_spread() {
         let plan = planned("01010201FFFFFFFF0064\n0201000300630000\n0201000300630000\n");
         assert_eq!((plan.choice, plan.worth), (vec![1, 1], 6));
     }

@@ -125,20 +125,26 @@ fn check_session(checks: &mut Checks, name: &str, alter: fn(&mut Call)) {
 /// Each call with and without a refusal, on memory with guards.
 fn bases() -> Vec<Base> {
     let good = Case::new(BENCH.to_vec());
-    let torn = Case::new(BENCH[..BENCH.len() - 1].to_vec());
-    let spent = good.with_budget(13);
+    let unterminated = Case::new(BENCH[..BENCH.len() - 1].to_vec());
+    let budget_exceeded = good.with_budget(13);
     let sheet = good.plan(NEED, BUFFER).sheet;
-    let foreign = [b"04", &sheet[..]].concat();
+    let foreign_sheet = [b"04", &sheet[..]].concat();
     let free = [0; BUFFER];
     let words = [7; NEED + 9];
     vec![
         base("plan, a sheet", Function::Plan, &good, &words, &free),
-        base("plan, refusal 1", Function::Plan, &torn, &words, &free),
-        base("plan, refusal 12", Function::Plan, &spent, &words, &free),
+        base("plan, refusal 1", Function::Plan, &unterminated, &words, &free),
+        base("plan, refusal 12", Function::Plan, &budget_exceeded, &words, &free),
         base("quick, a sheet", Function::Quick, &good, &[], &free),
-        base("quick, refusal 1", Function::Quick, &torn, &[], &free),
+        base("quick, refusal 1", Function::Quick, &unterminated, &[], &free),
         base("read_sheet, a sheet", Function::ReadSheet, &good, &[], &sheet),
-        base("read_sheet, refusal 13", Function::ReadSheet, &good, &[], &foreign),
+        base(
+            "read_sheet, refusal 13",
+            Function::ReadSheet,
+            &good,
+            &[],
+            &foreign_sheet,
+        ),
     ]
 }
 

@@ -112,10 +112,10 @@ impl Grid {
     fn admits(&self, book: &Book, active: &[i64; SLOTS], column: usize) -> bool {
         (0..self.slots).all(|slot| {
             let (step, limit) = (self.steps[slot], book.limits[slot]);
-            let slack = book.loads().len() as i64 * (step - 1);
+            let spread = book.loads().len() as i64 * (step - 1);
             let b = column as i64 / self.column_weights[slot] % self.spans[slot] + self.lowest[slot];
             let p = active[slot] * step;
-            let q = 0.clamp(b * step, b * step + slack);
+            let q = 0.clamp(b * step, b * step + spread);
             p * p + q * q <= limit * limit
         })
     }

@@ -77,14 +77,8 @@ fn same_answer(a: Answer, wanted: Wanted) -> bool {
 }
 
 fn same_reading(a: SheetAnswer, wanted: Wanted) -> bool {
-    let first = Answer {
-        number: a.number,
-        line: a.line,
-        bytes: a.bytes,
-        worth: a.worth,
-        trials: a.trials,
-    };
-    same_answer(first, wanted) && a.code == wanted.code
+    let answer = a.answer;
+    same_answer(answer, wanted) && a.code == wanted.code
 }
 
 // What no call answers: the bench has lent more than it has.
@@ -143,31 +137,22 @@ fn ask_quick(text: &[u8], length: u64, sheet: &mut [u8], room: u64) -> Answer {
     }
 }
 
+fn no_reading() -> SheetAnswer {
+    let answer = no_answer();
+    SheetAnswer { answer, code: 0 }
+}
+
 fn ask_reader(text: &[u8], length: u64, sheet: &[u8], bytes: u64) -> SheetAnswer {
     let l = length as usize;
     let b = bytes as usize;
     if l <= text.len() {
         if b <= sheet.len() {
-            sheet::read_sheet(&text[..l], &sheet[..b])
+            reader::read_sheet(&text[..l], &sheet[..b])
         } else {
-            SheetAnswer {
-                number: 99,
-                line: 0,
-                bytes: 0,
-                worth: 0,
-                trials: 0,
-                code: 0,
-            }
+            no_reading()
         }
     } else {
-        SheetAnswer {
-            number: 99,
-            line: 0,
-            bytes: 0,
-            worth: 0,
-            trials: 0,
-            code: 0,
-        }
+        no_reading()
     }
 }
 

@@ -68,7 +68,7 @@ pub fn draw_two(dice: &mut [u64], book: &[u64]) -> Faults {
     Faults { high, low }
 }
 
-// How many of two faults are in the text: nothing comes after a torn line.
+// How many of two faults are in the text: nothing comes after an unterminated line.
 pub fn shown(faults: Faults) -> u64 {
     let high = faults.high;
     let low = faults.low;
@@ -86,8 +86,8 @@ pub fn first(faults: Faults) -> Fault {
     if high.line < low.line { high } else { low }
 }
 
-// T or o out of its range, by two digits that begin at the line's third.
-fn crowd(text: &mut [u8], start: u64, dice: &mut [u64]) {
+// T or o out of its range (crowded), by two digits that begin at the line's third.
+fn slots_or_options_out_of_range(text: &mut [u8], start: u64, dice: &mut [u64]) {
     let least = if start == 0 { 5 } else { 4 };
     let kind = roll(dice, 3);
     let more = roll(dice, minus(256, least));
@@ -99,8 +99,8 @@ fn crowd(text: &mut [u8], start: u64, dice: &mut [u64]) {
     put_number(text, plus(start, 2), 2, range);
 }
 
-// N or d out of its range.
-fn pass_range(text: &mut [u8], dice: &mut [u64]) {
+// N or d out of its range (beyond).
+fn loads_or_fineness_out_of_range(text: &mut [u8], dice: &mut [u64]) {
     let kind = roll(dice, 4);
     if kind == 0 {
         put_number(text, 4, 2, 0);
@@ -141,8 +141,8 @@ fn farther(p: u64, more: u64, kind: u64) -> u64 {
     }
 }
 
-// |Q| one above P, or more, in some option and slot.
-fn slacken(text: &mut [u8], start: u64, dice: &mut [u64], book: &[u64], load: u64) {
+// |Q| one above P, or more, in some option and slot (slack).
+fn reactive_exceeds_active(text: &mut [u8], start: u64, dice: &mut [u64], book: &[u64], load: u64) {
     let place = plus(start, draw_pair(dice, book, load));
     let p = roll(dice, 32768);
     let far = farther(p, roll(dice, minus(32768, p)), roll(dice, 3));
@@ -151,8 +151,8 @@ fn slacken(text: &mut [u8], start: u64, dice: &mut [u64], book: &[u64], load: u6
     put_number(text, next, 4, q);
 }
 
-// A byte of the line that is no digit; an empty line gets one.
-fn smudge(text: &mut [u8], start: u64, end: u64, dice: &mut [u64]) -> u64 {
+// A byte of the line that is no digit (smudged); an empty line gets one.
+fn not_hex(text: &mut [u8], start: u64, end: u64, dice: &mut [u64]) -> u64 {
     let place = plus(start, roll(dice, minus(end, start)));
     put_byte(text, place, byte_at(b"gafG:/@` \r\t\0", roll(dice, 12)));
     greater(end, plus(place, 1))
@@ -169,28 +169,28 @@ fn put_fault(
 ) -> u64 {
     let kind = fault.number;
     if kind == 7 {
-        slacken(text, start, dice, book, minus(fault.line, 2));
+        reactive_exceeds_active(text, start, dice, book, minus(fault.line, 2));
         end
     } else if kind == 6 {
-        pass_range(text, dice);
+        loads_or_fineness_out_of_range(text, dice);
         end
     } else if kind == 5 {
         put_byte(text, end, b'0');
         minus(plus(end, 1), times(2, roll(dice, 2)))
     } else if kind == 4 {
-        crowd(text, start, dice);
+        slots_or_options_out_of_range(text, start, dice);
         end
     } else if kind == 3 {
-        stray(text, start, end, dice)
+        wrong_kind(text, start, end, dice)
     } else if kind == 2 {
-        smudge(text, start, end, dice)
+        not_hex(text, start, end, dice)
     } else {
         plus(start, roll(dice, plus(minus(end, start), 1)))
     }
 }
 
-// Fewer than 4 digits, or a kind that is not due.
-fn stray(text: &mut [u8], start: u64, end: u64, dice: &mut [u64]) -> u64 {
+// Fewer than 4 digits, or a kind that is not due (stray).
+fn wrong_kind(text: &mut [u8], start: u64, end: u64, dice: &mut [u64]) -> u64 {
     let digits = roll(dice, 8);
     let due = if start == 0 { 1 } else { 2 };
     if digits < 4 {
@@ -254,30 +254,34 @@ fn put_damaged_line(
 ) -> u64 {
     let mut end = put_line(text, start, book, line);
     end = put_faults(text, start, end, dice, book, faults, line);
-    put_end_unless(text, end, line == torn_line(faults))
+    put_end_unless(text, end, line == unterminated_line(faults))
 }
 
-// A book's text with its faults; a torn line is the last.
+// A book's text with its faults; an unterminated line is the last.
 pub fn put_damaged(text: &mut [u8], dice: &mut [u64], book: &[u64], faults: Faults) -> u64 {
-    let torn = torn_line(faults);
+    let unterminated = unterminated_line(faults);
     let mut end = 0;
-    for line in 1..plus(lesser(torn, plus(fields::loads(book), 1)), 1) {
+    for line in 1..plus(lesser(unterminated, plus(fields::loads(book), 1)), 1) {
         end = put_damaged_line(text, end, dice, book, faults, line);
     }
     put_trailing(text, end, faults)
 }
 
-// The line that is torn, if one is.
-fn torn_line(faults: Faults) -> u64 {
+// The line that is unterminated (torn), if one is.
+fn unterminated_line(faults: Faults) -> u64 {
     let low = faults.low;
     if low.number == 1 { low.line } else { NO_LINE }
 }
 
-fn put_end_unless(text: &mut [u8], end: u64, torn: bool) -> u64 {
-    if torn { end } else { put_end(text, end) }
+fn put_end_unless(text: &mut [u8], end: u64, unterminated: bool) -> u64 {
+    if unterminated {
+        end
+    } else {
+        put_end(text, end)
+    }
 }
 
-// A byte after the last line: no LF where the last line is torn, as it would end it.
+// A byte after the last line (trailing): no LF where the last line is unterminated, as it would end it.
 fn put_trailing(text: &mut [u8], end: u64, faults: Faults) -> u64 {
     let high = faults.high;
     let low = faults.low;

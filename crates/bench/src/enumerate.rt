@@ -125,10 +125,10 @@ fn keeps(book: &[u64], choice: u64) -> bool {
 fn is_admitted(book: &[u64], choice: u64, slot: u64) -> bool {
     let s = sums(book, choice, slot);
     let step = fields::step(book, slot);
-    let slack = times(fields::loads(book), minus(step, 1));
+    let spread = times(fields::loads(book), minus(step, 1));
     let p = times(s.grid_active, step);
     let high = times(minus(s.grid_up, s.grid_down), step);
-    let low = minus(times(minus(s.grid_down, s.grid_up), step), slack);
+    let low = minus(times(minus(s.grid_down, s.grid_up), step), spread);
     plus(square(p), square(plus(high, low))) <= square(fields::limit(book, slot))
 }
 
@@ -179,7 +179,7 @@ fn better(found: Best, book: &[u64], choice: u64) -> Best {
     }
 }
 
-// Numbers of cells from here on are not told apart; all of them are oversize.
+// Numbers of cells from here on are not told apart; all of them are too many (oversize).
 const MANY: u64 = 4000000;
 
 // "cells is the product over the slots"

@@ -1,3 +1,3 @@
 -- Laws that the functions' proofs cite.
 pub mod LineLaws
-pub mod ReadLaws
+pub mod LoadsLaws

@@ -23,7 +23,7 @@ use Rattle.model.proofs.ListLaws.{both-true, either-false, within-is}
 use Rattle.model.proofs.IntegerLaws.{split, sub-neg}
 use Rattle.model.proofs.RefusalLaws.{first-passed}
 use Rattle.model.proofs.UptoLaws.{length-upto, getD-upto}
-use Rattle.book.specs.Lines.{HeaderLine, LoadLine, Room}
+use Rattle.book.specs.Lines.{HeaderLine, LoadLine, HoldsOption}
 
 pub ltb-not : (a b : ℕ) → ltb a b ≡ not (leb b a)
 ltb-not a b = go (split a b)
@@ -102,8 +102,8 @@ pub option-small : (t j : ℕ) → t ≤ 4 → j ≤ 3 → optionStart t j ≤ 1
 unfolding optionStart
 option-small t j p q = omega (arith, option-product t j p q)
 
-pub room : (t j o : ℕ) (line : List ℕ) → LoadLine t o line → j < o → Room t j line
-room t j o line h p =
+pub holds-option : (t j o : ℕ) (line : List ℕ) → LoadLine t o line → j < o → HoldsOption t j line
+holds-option t j o line h p =
     record {
       slots = h .slots;
       option = omega (arith, h .options);

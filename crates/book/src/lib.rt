@@ -15,7 +15,8 @@ ghost use Rattle.model.specs.declared.Finding.the-variants.{Passed};
 ghost use Rattle.model.specs.Refusals.{first, refused};
 ghost use Rattle.model.specs.Book.{limitsIn, headerRules, kindRule, optionStart, powerAt, options, settings, reactiveExceeds, someExceeds, loadRules, readLoads, readBook};
 ghost use Rattle.model.specs.Values.{settingOf, powerOf, loadValue, freshBook, readingOf};
-ghost use Rattle.book.specs.Lines.{HeaderLine, LoadLine, Room, powerValue, loadsReading, restRead};
+ghost use Rattle.model.specs.Bounds.{mostSlots, mostLoads, mostOptions, mostSettings};
+ghost use Rattle.book.specs.Lines.{HeaderLine, LoadLine, HoldsOption, powerValue, loadsReading, restRead};
 
 // An active power, and a reactive power plus 32,768.
 pub struct PowerValue {
@@ -26,7 +27,7 @@ pub struct PowerValue {
 // What reading the load lines gives; the loads are fresh ones where the answer is a refusal.
 pub struct LoadsReading {
     pub answer: Answer,
-    pub loads: [Load; 24],
+    pub loads: [Load; Book::LOADS],
 }
 
 fn outside(x: u64, low: u64, high: u64) -> bool
@@ -85,12 +86,12 @@ fn limit_at(line: &[u8], slots: usize, s: usize) -> u64
     0
 }
 
-fn limits_of(line: &[u8], slots: usize) -> [u64; 4]
+fn limits_of(line: &[u8], slots: usize) -> [u64; Book::SLOTS]
     requires { ⌜ HeaderLine slots (now line) ⌝ }
-    ensures { λ r. ⌜ r ≡ map (λ s. getD (limitsIn (now (line .entry))) s 0) (upto 4) ⌝ }
+    ensures { λ r. ⌜ r ≡ map (λ s. getD (limitsIn (now (line .entry))) s 0) (upto mostSlots) ⌝ }
 {
-    let mut limits = [0u64; 4];
-    for s in 0..4 {
+    let mut limits = [0u64; Book::SLOTS];
+    for s in 0..Book::SLOTS {
         limits[s] = limit_at(line, slots, s);
     }
     limits
@@ -98,7 +99,7 @@ fn limits_of(line: &[u8], slots: usize) -> [u64; 4]
 
 // Where option j + 1 of a load line starts.
 fn option_start(slots: usize, j: usize) -> usize
-    requires { ⌜ (slots ≤ 4) × (j ≤ 3) ⌝ }
+    requires { ⌜ (slots ≤ mostSlots) × (j ≤ mostOptions) ⌝ }
     ensures { λ r. ⌜ r ≡ optionStart slots j ⌝ }
 {
     4 + j * (4 + 8 * slots)
@@ -117,7 +118,7 @@ fn power_at(line: &[u8], at: usize) -> PowerValue
 
 // |Q| > P in option j + 1 and slot s.
 fn exceeds_at(line: &[u8], slots: usize, j: usize, s: usize) -> bool
-    requires { ⌜ Room slots j (now line) ⌝ }
+    requires { ⌜ HoldsOption slots j (now line) ⌝ }
     requires { ⌜ s < slots ⌝ }
     ensures { λ r. ⌜ r ≡ reactiveExceeds (powerAt (now (line .entry)) (optionStart slots j + 4 + 8 * s)) ⌝ }
 {
@@ -145,7 +146,7 @@ fn some_exceeds(line: &[u8], slots: usize, count: usize) -> bool
 
 // Refusals 2 to 5 and 7, in this order, of a load line.
 fn load_finding(line: &[u8], slots: usize) -> Finding
-    requires { ⌜ slots ≤ 4 ⌝ }
+    requires { ⌜ slots ≤ mostSlots ⌝ }
     ensures { λ r. ⌜ r ≡ first (loadRules slots (now (line .entry))) ⌝ }
 {
     if !hex::all_digits(line) {
@@ -192,8 +193,8 @@ fn power_of(line: &[u8], slots: usize, count: usize, k: usize) -> PowerValue
         active: 0,
         reactive: 32768,
     };
-    let c = k / 4;
-    let s = k % 4;
+    let c = k / Book::SLOTS;
+    let s = k % Book::SLOTS;
     if c < 1 {
         return none;
     }
@@ -207,12 +208,12 @@ fn power_of(line: &[u8], slots: usize, count: usize, k: usize) -> PowerValue
     power_at(line, at + 4 + 8 * s)
 }
 
-fn worths_of(line: &[u8], slots: usize, count: usize) -> [u64; 4]
+fn worths_of(line: &[u8], slots: usize, count: usize) -> [u64; Load::SETTINGS]
     requires { ⌜ LoadLine slots count (now line) ⌝ }
-    ensures { λ r. ⌜ r ≡ map (λ c. settingOf (settings slots (now (line .entry))) c .worth) (upto 4) ⌝ }
+    ensures { λ r. ⌜ r ≡ map (λ c. settingOf (settings slots (now (line .entry))) c .worth) (upto mostSettings) ⌝ }
 {
-    let mut worths = [0u64; 4];
-    for c in 0..4 {
+    let mut worths = [0u64; Load::SETTINGS];
+    for c in 0..Load::SETTINGS {
         worths[c] = worth_of(line, slots, count, c);
     }
     worths
@@ -224,9 +225,9 @@ fn load_of(line: &[u8], slots: usize, count: usize) -> Load
     ensures { λ r. ⌜ r ≡ loadValue (settings slots (now (line .entry))) ⌝ }
 {
     let worths = worths_of(line, slots, count);
-    let mut actives = [0u64; 16];
-    let mut reactives = [0u64; 16];
-    for k in 0..16 {
+    let mut actives = [0u64; Load::POWERS];
+    let mut reactives = [0u64; Load::POWERS];
+    for k in 0..Load::POWERS {
         let power = power_of(line, slots, count, k);
         actives[k] = power.active;
         reactives[k] = power.reactive;
@@ -246,17 +247,17 @@ fn no_loads(r: Refusal, line: usize) -> LoadsReading
     let none = Load::fresh();
     LoadsReading {
         answer: Answer::refusal(r, line as u64),
-        loads: [none; 24],
+        loads: [none; Book::LOADS],
     }
 }
 
 // The load lines of a book with this many slots and loads.
 fn read_loads(s: &[u8], slots: usize, count: usize) -> LoadsReading
-    requires { ⌜ (slots ≤ 4) × (count ≤ 24) ⌝ }
+    requires { ⌜ (slots ≤ mostSlots) × (count ≤ mostLoads) ⌝ }
     ensures { λ r. ⌜ r ≡ loadsReading (readLoads slots count 2 (now (s .entry))) ⌝ }
 {
     let none = Load::fresh();
-    let mut loads = [none; 24];
+    let mut loads = [none; Book::LOADS];
     let mut at = 0;
     let mut k = 0;
     while k < count {
@@ -280,13 +281,7 @@ fn read_loads(s: &[u8], slots: usize, count: usize) -> LoadsReading
         return no_loads(Refusal::TrailingBytes, k + 2);
     }
     LoadsReading {
-        answer: Answer {
-            number: 0,
-            line: 0,
-            bytes: 0,
-            worth: 0,
-            trials: 0,
-        },
+        answer: Answer::success(0, 0, 0),
         loads,
     }
 }

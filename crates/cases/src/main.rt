@@ -14,14 +14,19 @@ fn print_field(name: &[u8], n: u64) {
     io::print_decimal(STDOUT_FILENO, n);
 }
 
-// An answer, and the buffer as the call left it.
-fn print_answer(name: &[u8], call: &[u8], a: Answer, sheet: &[u8]) {
+// The numbers of an answer.
+fn print_numbers(name: &[u8], call: &[u8], a: Answer) {
     print(name);
     print_field(call, a.number);
     print_field(b" line ", a.line);
     print_field(b" bytes ", a.bytes);
     print_field(b" worth ", a.worth);
     print_field(b" trials ", a.trials);
+}
+
+// An answer, and the buffer as the call left it.
+fn print_answer(name: &[u8], call: &[u8], a: Answer, sheet: &[u8]) {
+    print_numbers(name, call, a);
     print(b"\n");
     print(sheet);
     print(b"\n");
@@ -39,14 +44,10 @@ fn plan_case(name: &[u8], book: &[u8], work: &mut [u64], sheet: &mut [u8]) {
 
 // The sheet reader on a book and a sheet.
 fn reader_case(name: &[u8], book: &[u8], sheet: &[u8]) {
-    let a = sheet::read_sheet(book, sheet);
-    print(name);
-    print_field(b": reader, number ", a.number);
-    print_field(b" line ", a.line);
-    print_field(b" bytes ", a.bytes);
-    print_field(b" worth ", a.worth);
-    print_field(b" trials ", a.trials);
-    print_field(b" code ", a.code);
+    let read = reader::read_sheet(book, sheet);
+    let answer = read.answer;
+    print_numbers(name, b": reader, number ", answer);
+    print_field(b" code ", read.code);
     print(b"\n");
 }
 
@@ -103,7 +104,7 @@ fn enough() -> [u64; 1056]
 }
 
 // One word less.
-fn cramped() -> [u64; 1055]
+fn work_too_small() -> [u64; 1055]
     ensures { λ r. ⌜ 1055 ≡ length r ⌝ }
 {
     [77; 1055]
@@ -112,18 +113,19 @@ fn cramped() -> [u64; 1055]
 // Books that the planner refuses, also with two faults: the first of 9 to 12 counts, and the buffer stays as it is.
 fn refused_plans() {
     let book = b"0101030400000064000A\n0201000500050005\n020100050004FFFC\n0201000400040000\n";
-    let spent = b"010103040000000D000A\n0201000500050005\n020100050004FFFC\n0201000400040000\n";
+    let budget_exceeded =
+        b"010103040000000D000A\n0201000500050005\n020100050004FFFC\n0201000400040000\n";
     let wide = b"0102014000000064FFFFFFFF\n020100010001000000010000\n";
     let mut work = enough();
-    let mut less = cramped();
+    let mut less = work_too_small();
     let mut sheet = [46u8; 48];
     let mut short = [46u8; 47];
     plan_case(b"torn", b"0101", &mut less, &mut short);
     plan_case(b"oversize", wide, &mut less, &mut short);
     plan_case(b"cramped", book, &mut less, &mut sheet);
-    plan_case(b"cramped, no sheet", spent, &mut less, &mut short);
-    plan_case(b"no sheet, spent", spent, &mut work, &mut short);
-    plan_case(b"spent", spent, &mut work, &mut sheet);
+    plan_case(b"cramped, no sheet", budget_exceeded, &mut less, &mut short);
+    plan_case(b"no sheet, spent", budget_exceeded, &mut work, &mut short);
+    plan_case(b"spent", budget_exceeded, &mut work, &mut sheet);
 }
 
 // Plans: document 01's example at its very budget, and loads that just fit, just do not, or draw nothing.

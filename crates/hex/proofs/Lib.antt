@@ -1,3 +1,3 @@
 -- Laws that the functions' proofs cite.
 pub mod WrittenLaws
-pub mod ReadLaws
+pub mod FieldLaws

@@ -2,7 +2,7 @@
 -- Assumes nothing.
 use Prim.Native.Nat.{ℕ, suc, _+_, _-_, _/_, _%_, _^_, _≤_, _<_}
 use mathlib.Core.List.{List, [], _∷_, _++_, append-assoc, append-nil}
-use mathlib.Core.Path.{_≡_, sym, ap, _∙_}
+use mathlib.Core.Path.{_≡_, sym, ap, ap₂, _∙_}
 use native.Mathlib.Nat.{add-zero, add-assoc, zero-add, sub-self, div-one, div-div-eq-div-mul, pow-zero, pow-suc}
 use native.Mathlib.Numerals.{add-one}
 use native.Mathlib.Omega.{arith}
@@ -42,6 +42,14 @@ written-then l at xs ys h =
     ∙ ap (λ n. drop n l) (add-assoc at (length xs) (length ys)) in
     rw (take-at (take at l ++ xs) (drop (at + length xs) l) (at + length xs) e, d, length-append)
     (ap (λ r. r ++ drop (at + (length xs + length ys)) l) (append-assoc (take at l) xs ys))
+
+-- a write at the place where another ended
+pub write-on : (l l′ : List ℕ) (at at′ : ℕ) (xs ys : List ℕ) → l′ ≡ written l at xs → at′ ≡ at + length xs → at′ + length ys ≤ length l
+    → written l′ at′ ys ≡ written l at (xs ++ ys)
+write-on l l′ at at′ xs ys e p h = ap₂ (λ m k. written m k ys) e p ∙ written-then l at xs ys (omega arith)
+
+pub write-byte : (l : List ℕ) (at v : ℕ) → at < length l → set l at v ≡ written l at (v ∷ [])
+write-byte l at v h = ap (λ m. set m at v) (sym (written-none l (at + 1))) ∙ written-front l at v [] h
 
 -- a write into the part from a place on
 pub written-part : (l : List ℕ) (a at : ℕ) (xs : List ℕ) → a ≤ length l → take a l ++ written (drop a l) at xs ≡ written l (a + at) xs

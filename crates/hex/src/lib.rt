@@ -6,7 +6,7 @@ ghost use Rattle.model.specs.Lists.{all};
 ghost use Rattle.model.specs.Frames.{isDigit, digitValue, digit, field, digits, lineLength};
 ghost use Rattle.hex.specs.Written.{written};
 
-pub fn is_digit(b: u8) -> bool
+fn is_digit(b: u8) -> bool
     ensures { λ r. ⌜ r ≡ isDigit b ⌝ }
 {
     if b < 48 {
@@ -22,7 +22,7 @@ pub fn is_digit(b: u8) -> bool
 }
 
 // What a digit stands for; 0 for any other byte.
-pub fn value_of(b: u8) -> u64
+fn value_of(b: u8) -> u64
     ensures { λ r. ⌜ r ≡ digitValue b ⌝ }
 {
     if b < 48 {
@@ -82,7 +82,7 @@ pub fn line_length(s: &[u8]) -> usize
 }
 
 // The digit of a number below 16.
-pub fn digit_of(x: u64) -> u8
+fn digit_of(x: u64) -> u8
     requires { ⌜ x < 16 ⌝ }
     ensures { λ r. ⌜ r ≡ digit x ⌝ }
 {

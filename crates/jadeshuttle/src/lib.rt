@@ -4,16 +4,16 @@ use model::SheetAnswer;
 ghost use mathlib.Core.Path.{_≡_};
 ghost use lib.ListN.{length};
 ghost use Rattle.model.specs.Trials.{WordsKept};
-ghost use Rattle.model.specs.Calls.{answerOf, bufferAfter, plannerResult, freeWords};
+ghost use Rattle.model.specs.Calls.{plannerResult, freeWords};
 ghost use Rattle.model.specs.Demand.{Demand3};
 ghost use Rattle.model.specs.Quick.{quickResult};
 ghost use Rattle.model.specs.SheetReader.{readerResult, sheetAnswerOf};
+ghost use Rattle.model.specs.Answers.{Writes};
 
 // The planner: the sheet of the plan, or the first refusal of 1 to 12.
 #[no_mangle]
 pub extern "C" fn jadeshuttle_plan(book: &[u8], work: &mut [u64], sheet: &mut [u8]) -> Answer
-    ensures answer { λ r. ⌜ r ≡ answerOf (plannerResult (now (book .entry)) (length (now (work .entry))) (length (now (sheet .entry)))) ⌝ }
-    ensures bytes { λ _. ⌜ now (sheet .exit) ≡ bufferAfter (plannerResult (now (book .entry)) (length (now (work .entry))) (length (now (sheet .entry)))) (now (sheet .entry)) ⌝ }
+    ensures result { λ r. ⌜ Writes (plannerResult (now (book .entry)) (length (now (work .entry))) (length (now (sheet .entry)))) (now (sheet .entry)) (now (sheet .exit)) r ⌝ }
     ensures words { λ _. ⌜ WordsKept (freeWords (now (book .entry)) (length (now (work .entry))) (length (now (sheet .entry)))) (now (work .entry)) (now (work .exit)) ⌝ }
     ensures demand { λ r. ⌜ (r .number ≡ 0 → Demand3 (now (book .entry)) (now (sheet .exit))) ⌝ }
 {
@@ -23,8 +23,7 @@ pub extern "C" fn jadeshuttle_plan(book: &[u8], work: &mut [u64], sheet: &mut [u
 // The quick planner: refusals 1 to 8 and 11, or the quick sheet.
 #[no_mangle]
 pub extern "C" fn jadeshuttle_quick(book: &[u8], sheet: &mut [u8]) -> Answer
-    ensures answer { λ r. ⌜ r ≡ answerOf (quickResult (now (book .entry)) (length (now (sheet .entry)))) ⌝ }
-    ensures bytes { λ _. ⌜ now (sheet .exit) ≡ bufferAfter (quickResult (now (book .entry)) (length (now (sheet .entry)))) (now (sheet .entry)) ⌝ }
+    ensures { λ r. ⌜ Writes (quickResult (now (book .entry)) (length (now (sheet .entry)))) (now (sheet .entry)) (now (sheet .exit)) r ⌝ }
 {
     quick::quick(book, sheet)
 }
@@ -34,5 +33,5 @@ pub extern "C" fn jadeshuttle_quick(book: &[u8], sheet: &mut [u8]) -> Answer
 pub extern "C" fn jadeshuttle_read_sheet(book: &[u8], sheet: &[u8]) -> SheetAnswer
     ensures { λ r. ⌜ r ≡ sheetAnswerOf (readerResult (now (book .entry)) (now (sheet .entry))) ⌝ }
 {
-    sheet::read_sheet(book, sheet)
+    reader::read_sheet(book, sheet)
 }

@@ -11,6 +11,7 @@ use Rattle.model.specs.Trials.{gridTop, cells}
 use Rattle.model.specs.Valid.{Labelled, SettingSmall}
 use Rattle.model.specs.Values.{loadValue}
 use Rattle.model.specs.Index.{widthOf, rowCount, columnCount, columnIndex, cellCount}
+use Rattle.model.specs.Bounds.{mostSlots, mostCells}
 use Rattle.search.specs.Search.{Modelled}
 use Rattle.layout.specs.declared.Slots.{Slots}
 use Rattle.layout.specs.declared.Extent.{Extent}
@@ -19,10 +20,10 @@ use Rattle.layout.specs.declared.Layout.{Layout}
 abbrev pub noSlot : Slot
 noSlot = record { place = 0; limit = 0; step = 1; loads = 0 }
 
--- a number of cells that is exact up to 1,048,576, and over that where the cells are
+-- a number of cells that is exact up to the bound, and over that where the cells are
 pub record Capped (count r : ℕ) : Type 0 where
-  pub exact : r ≤ 1048576 → r ≡ count
-  pub over : 1048576 < r → 1048576 < count
+  pub exact : r ≤ mostCells → r ≡ count
+  pub over : mostCells < r → mostCells < count
 
 -- at place t of the arrays stand the numbers of the slot s
 pub record SlotAt (v : Slots) (t : ℕ) (s : Slot) : Type 0 where
@@ -33,13 +34,13 @@ pub record SlotAt (v : Slots) (t : ℕ) (s : Slot) : Type 0 where
   pub step-some : 1 ≤ s .step
   pub step-small : s .step ≤ 65535
 
--- the slots of which the first `count` entries speak, where their table has at most 1,048,576 cells
+-- the slots of which the first `count` entries speak, where their table is within the bound on cells
 pub record Laid (v : Slots) (count : ℕ) : Type 0 where
   pub slots : List Slot
   pub count-is : count ≡ length slots
-  pub few : length slots ≤ 4
+  pub few : length slots ≤ mostSlots
   pub each : (t : ℕ) → t < length slots → SlotAt v t (getD slots t noSlot)
-  pub fits : cellCount 1 slots ≤ 1048576
+  pub fits : cellCount 1 slots ≤ mostCells
 
 -- the settings that a load's value holds
 pub record LoadHeld (l : Load) : Type 0 where

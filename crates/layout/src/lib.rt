@@ -8,6 +8,7 @@ ghost use mathlib.Core.Path.{_≡_};
 ghost use mathlib.Core.List.{[]};
 ghost use Prim.Native.Nat.{ℕ, _*_, _^_, _<_, _≤_};
 ghost use lib.ListN.{getD};
+ghost use Rattle.model.specs.Bounds.{mostLoads, mostFineness, mostCells};
 ghost use Rattle.model.specs.Grid.{stepFor, slotsOf, floorDiv};
 ghost use Rattle.model.specs.Trials.{cells};
 ghost use Rattle.model.specs.Values.{raised, lowered, settingOf, Held, problemOf};
@@ -17,9 +18,9 @@ ghost use Rattle.layout.specs.Layout.{Capped, Laid, LoadHeld, Extended, 
 
 // For each slot: the step L, the number R + 1 of active grid values and the number 2R + N + 1 of reactive ones.
 pub struct Slots {
-    pub steps: [u64; 4],
-    pub tops: [usize; 4],
-    pub widths: [usize; 4],
+    pub steps: [u64; Book::SLOTS],
+    pub tops: [usize; Book::SLOTS],
+    pub widths: [usize; Book::SLOTS],
 }
 
 // The rows of the table, the columns of a row, and the column of no power.
@@ -33,12 +34,12 @@ pub struct Extent {
 pub struct Layout {
     pub grid: Grid,
     pub origin: usize,
-    pub moves: [LoadMoves; 24],
+    pub moves: [LoadMoves; Book::LOADS],
 }
 
 // S div (N d), but at least 1.
 fn step_of(limit: u64, loads: u64, fineness: u64) -> u64
-    requires { ⌜ (1 ≤ loads) × (loads ≤ 24) × (1 ≤ fineness) × (fineness ≤ 64) ⌝ }
+    requires { ⌜ (1 ≤ loads) × (loads ≤ mostLoads) × (1 ≤ fineness) × (fineness ≤ mostFineness) ⌝ }
     ensures { λ r. ⌜ r ≡ stepFor loads fineness limit ⌝ }
 {
     let step = limit / (loads * fineness);
@@ -56,9 +57,9 @@ pub fn slots_of(book: Book) -> Slots
     let count = book.count;
     let fineness = book.fineness;
     let limits = book.limits;
-    let mut steps = [0u64; 4];
-    let mut tops = [0usize; 4];
-    let mut widths = [0usize; 4];
+    let mut steps = [0u64; Book::SLOTS];
+    let mut tops = [0usize; Book::SLOTS];
+    let mut widths = [0usize; Book::SLOTS];
     let mut t: usize = 0;
     while t < slots {
         let limit = limits[t];
@@ -76,7 +77,7 @@ pub fn slots_of(book: Book) -> Slots
     }
 }
 
-// The product over the slots of the numbers of active and reactive values; 1,048,577 once it is over 1,048,576.
+// The product over the slots of the numbers of active and reactive values; one more than the bound on cells once it is over that.
 pub fn cells_of(book: Book, slots: Slots) -> usize
     requires { ⌜ Held book ⌝ }
     requires { ⌜ SlotsIn 0 (slots .steps) (slots .tops) (slots .widths) (book .limits) 0 (slotsOf (problemOf book)) ⌝ }
@@ -88,8 +89,8 @@ pub fn cells_of(book: Book, slots: Slots) -> usize
         let top = slots.tops[t];
         let wide = slots.widths[t];
         product = product * (top * wide);
-        if 1048576 < product {
-            return 1048577;
+        if Book::CELLS < product {
+            return Book::CELLS + 1;
         }
         t += 1;
     }
@@ -113,14 +114,14 @@ fn move_of(load: Load, c: usize, unit: u64, count: usize, slots: Slots) -> Setti
     requires { ⌜ (c < load .settings) × (unit ≤ 70368744177664) ⌝ }
     ensures { λ r. ⌜ ((h : LoadHeld load) (l : Laid slots count) (k : ℕ) → unit ≡ 4 ^ k → MoveIs 0 (l .slots) k (settingOf (h .settings) c) r) ⌝ }
 {
-    let mut active = [0usize; 4];
+    let mut active = [0usize; Book::SLOTS];
     let mut back: usize = 0;
     let mut up: usize = 0;
     let mut down: usize = 0;
     let mut t = count;
     while 0 < t {
         t -= 1;
-        let at = 4 * c + t;
+        let at = Book::SLOTS * c + t;
         let step = slots.steps[t];
         let top = slots.tops[t];
         let wide = slots.widths[t];
@@ -151,7 +152,7 @@ fn no_move() -> SettingMove {
         back: 0,
         up: 0,
         down: 0,
-        active: [0; 4],
+        active: [0; Book::SLOTS],
     }
 }
 
@@ -164,7 +165,7 @@ fn moves_of(load: Load, unit: u64, count: usize, slots: Slots) -> LoadMoves
 {
     let settings = load.settings;
     let still = no_move();
-    let mut moves = [still; 4];
+    let mut moves = [still; Load::SETTINGS];
     let mut c: usize = 0;
     while c < settings {
         moves[c] = move_of(load, c, unit, count, slots);
@@ -177,7 +178,7 @@ fn moves_of(load: Load, unit: u64, count: usize, slots: Slots) -> LoadMoves
 }
 
 // What the settings of all loads do; an option of load k + 1 counts 4^k.
-fn loads_of(book: Book, slots: Slots) -> [LoadMoves; 24]
+fn loads_of(book: Book, slots: Slots) -> [LoadMoves; Book::LOADS]
     requires { ⌜ Held book ⌝ }
     requires { ⌜ Laid slots (book .slots) ⌝ }
     ensures { λ r. ⌜ ((l : Laid slots (book .slots)) (k : ℕ) → k < book .count → LoadIs 0 (l .slots) k (getD (problemOf book .loads) k []) (movesOf r k)) ⌝ }
@@ -187,9 +188,9 @@ fn loads_of(book: Book, slots: Slots) -> [LoadMoves; 24]
     let still = no_move();
     let none = LoadMoves {
         count: 0,
-        moves: [still; 4],
+        moves: [still; Load::SETTINGS],
     };
-    let mut moves = [none; 24];
+    let mut moves = [none; Book::LOADS];
     let mut unit: u64 = 1;
     let mut k: usize = 0;
     while k < loads {
@@ -228,7 +229,7 @@ fn extent_of(count: usize, slots: Slots) -> Extent
 pub fn layout_of(book: Book, slots: Slots, total: usize) -> Layout
     requires { ⌜ Held book ⌝ }
     requires { ⌜ SlotsIn 0 (slots .steps) (slots .tops) (slots .widths) (book .limits) 0 (slotsOf (problemOf book)) ⌝ }
-    requires { ⌜ (total ≡ cells (problemOf book)) × (total ≤ 1048576) ⌝ }
+    requires { ⌜ (total ≡ cells (problemOf book)) × (total ≤ mostCells) ⌝ }
     ensures { λ r. ⌜ LayoutIs (problemOf book) r ⌝ }
 {
     let count = book.slots;

@@ -50,7 +50,7 @@ fn main() {
         io::write_all(STDERR_FILENO, b"loadplan: standard input cannot be read\n");
         return;
     }
-    let printed = planner::output(&input[..taken.count]);
+    let printed = program::output(&input[..taken.count]);
     let bytes = printed.bytes;
     if !io::write_all(STDOUT_FILENO, &bytes[..printed.length]) {
         io::write_all(

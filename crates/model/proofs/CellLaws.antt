@@ -75,6 +75,7 @@ best-by-cell n p cell (c ∷ cs) h =
     one true b = sym (only-upto n (cell c) (some (choiceKey c)) (b tt))
     one false b = sym (upto-none n (λ i. none) (λ m l. refl))
 
+-- a cell has a best exactly when some choice has it
 some-join : (x y : Option Key) → isSome (join x y) ≡ isSome x || isSome y
 some-join none y = refl
 some-join (some x) none = refl

@@ -114,8 +114,6 @@ pub grids-last : (slots : List Slot) (c : Choice) (v : Setting)
 grids-last [] c v = refl
 grids-last (s ∷ slots) c v = ap₂ {C = List Power} (λ x r. x ∷ r) (grid-last s c v) (grids-last slots c v)
 
--- ---- |Q| is at most r × P, for each slot
-
 -- ---- the settings of a choice
 
 -- what each setting of a load has, each setting of a choice has

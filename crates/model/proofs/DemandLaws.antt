@@ -20,17 +20,18 @@ use Rattle.model.specs.Book.{Setting, Settings, Problem, readBook, stand
 use Rattle.model.specs.Choice.{Choice, IsChoice, worthOf, sumIn, square, apparentSquared}
 use Rattle.model.specs.Grid.{Slot, stepFor, slotsFrom, slotsOf, keepsLimits, gridIn, spreadOf, times, Admissible, admits, admitted, plan}
 use Rattle.model.specs.Trials.{cells, neededWords, trials}
-use Rattle.model.specs.Sheet.{Sheet, sheetOf, sheetBytes, sheetLength}
-use Rattle.model.specs.Calls.{answerOf, bufferAfter, sizeRules, fittingBook, choiceOr, planSheet, plannerResult}
-use Rattle.model.specs.Demand.{P²+Q², S, T, N, CloserOverload, Demand3}
+use Rattle.model.specs.Sheet.{sheetOf, sheetBytes, sheetLength}
+use Rattle.model.specs.Calls.{sizeRules, fittingBook, choiceOr, planSheet, plannerResult}
+use Rattle.model.specs.Demand.{apparentSquaredIn, S, T, N, CloserOverload, Demand3}
 use Rattle.model.specs.Valid.{SettingSmall, ValidBook}
+use Rattle.model.specs.Answers.{Output, answerOf, bufferAfter}
 use Rattle.model.proofs.ListLaws.{both, each, every-mem}
 use Rattle.model.proofs.UptoLaws.{suc-across}
 use Rattle.model.proofs.RefusalLaws.{done-same, checked-done, then-done, NoneApplies, first-passed, first-none, number-some}
 use Rattle.model.proofs.ChoiceLaws.{choice-every, worth-most}
 use Rattle.model.proofs.AdmissionLaws.{square-abs, abs-offset, of-admits, Rounded, rounded-choice}
 use Rattle.model.proofs.PlanLaws.{plan-sound, plan-worth, chosen-length}
-use Rattle.model.proofs.ReaderLaws.{book-valid, plan-some}
+use Rattle.model.proofs.ValidLaws.{book-valid, plan-some}
 use Rattle.model.proofs.SheetLaws.{worth-on, numbers-on, numbers-small}
 use Rattle.model.proofs.Squares.{sq-mono}
 use Rattle.model.proofs.Overload as Overload
@@ -108,14 +109,14 @@ spread-zero n d i s h =
     rw (z, mul-zero)
 
 -- P² + Q², by the magnitude of Q
-as-squares : (i : ℕ) (c : Choice) → P²+Q² i c ≡ sumIn i c .p * sumIn i c .p + natAbs (sumIn i c .q) * natAbs (sumIn i c .q)
+as-squares : (i : ℕ) (c : Choice) → apparentSquaredIn i c ≡ sumIn i c .p * sumIn i c .p + natAbs (sumIn i c .q) * natAbs (sumIn i c .q)
 as-squares i c = ap (λ m. square (sumIn i c .p) + m) (square-abs (sumIn i c .q))
 
 module _ (n d i s : ℕ) (c : Choice) (few : length c ≤ n) (t : Dec.T (admits (slotAt n d i s) (gridIn (slotAt n d i s) c))) where
   here : Near (sumIn i c .p) (natAbs (sumIn i c .q)) (spreadOf (slotAt n d i s)) s
   here = near (slotAt n d i s) c (le-max-left 1 (s / (n * d))) few t
 
-  slot-exact : s < 2 * (n * d) → P²+Q² i c ≤ square s
+  slot-exact : s < 2 * (n * d) → apparentSquaredIn i c ≤ square s
   slot-exact h =
       let z : spreadOf (slotAt n d i s) ≡ 0 = spread-zero n d i s h in
       let x : sumIn i c .p ≤ here .p = omega (arith, here .p-near) in
@@ -143,7 +144,7 @@ closer-kept b c few t slot l =
     omega (
       arith,
       Overload.closer (sumIn slot c .p) (natAbs (sumIn slot c .q)) (h .p) (h .q) (spreadOf (slotIn b slot)) (h .p-near) (h .q-near)
-          (b .fineness) (S b slot) (spread-small (N b) (b .fineness) slot (S b slot)) (P²+Q² slot c) (as-squares slot c) (h .keeps),
+          (b .fineness) (S b slot) (spread-small (N b) (b .fineness) slot (S b slot)) (apparentSquaredIn slot c) (as-squares slot c) (h .keeps),
     )
 
 -- ---- the call
@@ -202,11 +203,11 @@ fitting-read book words room b e =
     (y .1 ∙ z .1, first-passed (sizeRules b words room) (subst (λ (a : Problem). first (sizeRules a words room) ≡ Passed) same (z .0)))
 
 -- the rule that follows the search
-abbrev spent : Problem → List Rule
-spent b = (ltb (b .budget) (trials b) ⇒ BudgetExceeded) ∷ []
+abbrev budgetRules : Problem → List Rule
+budgetRules b = (ltb (b .budget) (trials b) ⇒ BudgetExceeded) ∷ []
 
 -- what a sheet of the planner is
-pub planned-sheet : (book : List ℕ) (words room : ℕ) (s : Sheet) → plannerResult book words room ≡ done s
+pub planned-sheet : (book : List ℕ) (words room : ℕ) (s : Output) → plannerResult book words room ≡ done s
     → (b : Problem) × (c : Choice) × (readBook book ≡ done b) × (plan b ≡ some c) × (s ≡ sheetOf b c (trials b))
 unfolding plannerResult planSheet
 planned-sheet book words room s e =
@@ -216,7 +217,7 @@ planned-sheet book words room s e =
     let d : (c : Choice) × (plan b ≡ some c) = plan-some b (book-valid book b reads) in
     let w : sheetOf b (choiceOr (plan b)) (trials b) ≡ s
     = done-same (sheetOf b (choiceOr (plan b)) (trials b)) s
-    (checked-done 0 (first (spent b)) (done (sheetOf b (choiceOr (plan b)) (trials b))) s (x .2) .1) in
+    (checked-done 0 (first (budgetRules b)) (done (sheetOf b (choiceOr (plan b)) (trials b))) s (x .2) .1) in
     (b, d .0, reads, d .1, sym w ∙ ap (λ m. sheetOf b (choiceOr m) (trials b)) (d .1))
 
 -- DEMAND 3 of the call: whenever the answer has number 0
@@ -224,12 +225,12 @@ pub demand3 : (book : List ℕ) (words : ℕ) (before : List ℕ) → answerOf (
     → Demand3 book (bufferAfter (plannerResult book words (length before)) before)
 demand3 book words before e = go (plannerResult book words (length before)) refl e
   where
-    go : (r : Result Sheet) → plannerResult book words (length before) ≡ r → answerOf r .number ≡ 0 → Demand3 book (bufferAfter r before)
+    go : (r : Result Output) → plannerResult book words (length before) ≡ r → answerOf r .number ≡ 0 → Demand3 book (bufferAfter r before)
     go (refused r number) q z = absurd (number-some r z)
     go (done s) q z =
         let x : (b : Problem) × (c : Choice) × (readBook book ≡ done b) × (plan b ≡ some c) × (s ≡ sheetOf b c (trials b))
         = planned-sheet book words (length before) s q in
-        subst (λ (y : Sheet). Demand3 book (bufferAfter (done y) before)) (sym (x .4))
+        subst (λ (y : Output). Demand3 book (bufferAfter (done y) before)) (sym (x .4))
         (sheet-demand3 book (x .0) (x .1) (trials (x .0)) (drop (length (sheetBytes (x .0) (x .1) (trials (x .0)))) before) (x .2) (x .3))
 
 -- "The planner answers a book with a sheet whenever no refusal applies": none of 1 to 8, and none of 9 to 12
@@ -243,4 +244,4 @@ answers book words room b e few wide long enough =
     (first-none (sizeRules b words room)
     (le-ltb 1_048_576 (cells b) few, (le-ltb words (neededWords b) wide, (le-ltb room (sheetLength b) long, tt))))
     ∙ ap (λ f. answerOf (checked 0 f (done (sheetOf b (choiceOr (plan b)) (trials b)))) .number)
-    (first-none (spent b) (le-ltb (b .budget) (trials b) enough, tt))
+    (first-none (budgetRules b) (le-ltb (b .budget) (trials b) enough, tt))

@@ -1,17 +1,17 @@
 -- What is known of a value that holds a valid book, and of the settings that it holds.
 -- Assumes nothing.
 use mathlib.Core.Path.{_≡_, sym, ap, subst, _∙_}
-use mathlib.Core.List.{[]}
+use mathlib.Core.List.{[], map}
 use Prim.Native.Nat.{ℕ, _+_, _*_, _<_, _≤_}
 use native.Mathlib.Omega.{arith}
 use lib.ListN.{length, getD}
-use Rattle.model.specs.declared.Load.{Load}
 use Rattle.model.specs.declared.Book.{Book}
-use Rattle.model.specs.Valid.{ValidBook, SettingSmall}
-use Rattle.model.specs.Values.{Held, loadValue, bookValue, problemOf, settingOf, powerOf, raised}
+use Rattle.model.specs.declared.Load.{Load}
+use Rattle.model.specs.Lists.{Every, upto}
 use Rattle.model.specs.Book.{Settings, Problem, Power}
 use Rattle.model.specs.Choice.{powerIn, noSetting}
-use Rattle.model.specs.Lists.{Every}
+use Rattle.model.specs.Valid.{ValidBook, SettingSmall}
+use Rattle.model.specs.Values.{Held, loadValue, bookValue, problemOf, settingOf, powerOf, raised}
 use Rattle.model.proofs.ListLaws.{every-at, every-getD}
 use Rattle.model.proofs.UptoLaws.{getD-upto}
 use Rattle.model.proofs.ValueLaws.{held-kept, power-at}
@@ -64,14 +64,13 @@ pub loads-small : (b : Problem) → ValidBook b → (k : ℕ) → Every SettingS
 loads-small b valid k = every-getD (Every SettingSmall) (b .loads) [] tt (valid .loads .small) k
 
 module _ (vs : Settings) (c s : ℕ) (places : c < 4) (four : s < 4) where
+  load-entry : (f : Power → ℕ) → getD (map (λ i. f (powerOf vs i)) (upto 16)) (4 * c + s) 0 ≡ f (powerIn s (settingOf vs c))
+  load-entry f = getD-upto (λ i. f (powerOf vs i)) 16 (4 * c + s) 0 (omega arith) ∙ ap f (power-at vs c s four)
+
   pub load-active : getD (loadValue vs .actives) (4 * c + s) 0 ≡ powerIn s (settingOf vs c) .p
   unfolding loadValue
-  load-active =
-      getD-upto (λ i. powerOf vs i .p) 16 (4 * c + s) 0 (omega arith)
-      ∙ ap (λ (x : Power). x .p) (power-at vs c s four)
+  load-active = load-entry (λ x. x .p)
 
   pub load-reactive : getD (loadValue vs .reactives) (4 * c + s) 0 ≡ raised (powerIn s (settingOf vs c) .q)
   unfolding loadValue
-  load-reactive =
-      getD-upto (λ i. raised (powerOf vs i .q)) 16 (4 * c + s) 0 (omega arith)
-      ∙ ap (λ (x : Power). raised (x .q)) (power-at vs c s four)
+  load-reactive = load-entry (λ x. raised (x .q))

@@ -16,7 +16,7 @@ pub mod IndexLaws
 pub mod TableLaws
 pub mod LoopLaws
 pub mod RowLaws
-pub mod ReaderLaws
+pub mod ValidLaws
 pub mod SheetLaws
 pub mod CodeLaws
 pub mod QuickLaws
@@ -26,4 +26,4 @@ pub mod RaisedLaws
 pub mod HeldLaws
 pub mod RoundingLaws
 pub mod ReadingLaws
-pub mod Bench
+pub mod AcceptanceTable

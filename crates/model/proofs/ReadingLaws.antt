@@ -1,40 +1,52 @@
 -- What a caller of the book reader knows of its value: a book that was read is held, and a refusal is the caller's own answer.
 -- Assumes nothing.
-use mathlib.Core.Path.{_≡_, refl, ap}
+use mathlib.Core.Path.{_≡_, refl, sym, ap, subst, _∙_}
 use mathlib.Core.List.{List}
 use Prim.Native.Nat.{ℕ}
+use Rattle.model.specs.declared.Answer.{Answer}
+use Rattle.model.specs.declared.Reading.{Reading}
+use Rattle.model.specs.declared.Refusal.{Refusal}
 use Rattle.model.specs.Refusals.{Result, refused, done, andThen}
+use Rattle.model.specs.Answers.{Output, refusalAnswer, answerOf, bufferAfter, Writes}
 use Rattle.model.specs.Book.{Problem, readBook}
-use Rattle.model.specs.Sheet.{Sheet}
-use Rattle.model.specs.Calls.{answerOf, bufferAfter}
 use Rattle.model.specs.Values.{Held, problemOf, readingOf}
 use Rattle.model.proofs.RefusalLaws.{number-some}
-use Rattle.model.proofs.ReaderLaws.{book-valid}
+use Rattle.model.proofs.ValidLaws.{book-valid}
 use Rattle.model.proofs.ValueLaws.{book-kept}
 
-module _ (bytes : List ℕ) where
-  pub reading-held : readingOf (readBook bytes) .answer .number ≡ 0 → Held (readingOf (readBook bytes) .book)
-  reading-held = go (readBook bytes) refl
+-- of equal results the same is written
+pub writes-same : {x y : Result Output} {before after : List ℕ} {a : Answer} → x ≡ y → Writes x before after a → Writes y before after a
+writes-same {before = before} e w = record { answers = w .answers ∙ ap answerOf e; leaves = w .leaves ∙ ap (λ z. bufferAfter z before) e }
+
+-- a refusal leaves the buffer as it was
+pub refused-writes : (x : Result Output) (r : Refusal) (line : ℕ) (before : List ℕ) (a : Answer) → a ≡ refusalAnswer r line → x ≡ refused r line
+    → Writes x before before a
+refused-writes x r line before a e q =
+    record { answers = e ∙ ap answerOf (sym q); leaves = ap (λ y. bufferAfter y before) (sym q) }
+
+module _ (bytes : List ℕ) (v : Reading) (is : v ≡ readingOf (readBook bytes)) where
+  pub reading-held : v .answer .number ≡ 0 → Held (v .book)
+  reading-held = subst (λ (x : Reading). x .answer .number ≡ 0 → Held (x .book)) (sym is) (go (readBook bytes) refl)
     where
       go : (x : Result Problem) → readBook bytes ≡ x → readingOf x .answer .number ≡ 0 → Held (readingOf x .book)
-      go (refused r number) e h = absurd (number-some r h)
+      go (refused r line) e h = absurd (number-some r h)
       go (done b) e h = record { b = b; valid = book-valid bytes b e; is = refl }
 
   -- what is made of the book that was read
-  pub reading-done : {A : Type 0} (f : Problem → Result A) → readingOf (readBook bytes) .answer .number ≡ 0
-      → f (problemOf (readingOf (readBook bytes) .book)) ≡ andThen (readBook bytes) f
-  reading-done {A} f = go (readBook bytes) refl
+  pub reading-done : {A : Type 0} (f : Problem → Result A) → v .answer .number ≡ 0 → f (problemOf (v .book)) ≡ andThen (readBook bytes) f
+  reading-done {A} f =
+      subst (λ (x : Reading). x .answer .number ≡ 0 → f (problemOf (x .book)) ≡ andThen (readBook bytes) f) (sym is) (go (readBook bytes) refl)
     where
       go : (x : Result Problem) → readBook bytes ≡ x → readingOf x .answer .number ≡ 0 → f (problemOf (readingOf x .book)) ≡ andThen x f
-      go (refused r number) e h = absurd (number-some r h)
+      go (refused r line) e h = absurd (number-some r h)
       go (done b) e h = ap f (book-kept bytes b e)
 
   -- a refusal of the book, and the buffer as before
-  pub reading-refused : (f : Problem → Result Sheet) (buffer : List ℕ) → (readingOf (readBook bytes) .answer .number ≡ 0 → ⊥)
-      → (readingOf (readBook bytes) .answer ≡ answerOf (andThen (readBook bytes) f)) × (buffer ≡ bufferAfter (andThen (readBook bytes) f) buffer)
-  reading-refused f buffer = go (readBook bytes)
+  pub reading-refused : (f : Problem → Result Output) (buffer : List ℕ) → (v .answer .number ≡ 0 → ⊥)
+      → Writes (andThen (readBook bytes) f) buffer buffer (v .answer)
+  reading-refused f buffer =
+      subst (λ (x : Reading). (x .answer .number ≡ 0 → ⊥) → Writes (andThen (readBook bytes) f) buffer buffer (x .answer)) (sym is) (go (readBook bytes))
     where
-      go : (x : Result Problem) → (readingOf x .answer .number ≡ 0 → ⊥)
-          → (readingOf x .answer ≡ answerOf (andThen x f)) × (buffer ≡ bufferAfter (andThen x f) buffer)
-      go (refused r number) h = (refl, refl)
+      go : (x : Result Problem) → (readingOf x .answer .number ≡ 0 → ⊥) → Writes (andThen x f) buffer buffer (readingOf x .answer)
+      go (refused r line) h = record { answers = refl; leaves = refl }
       go (done b) h = absurd (h refl)

@@ -8,8 +8,8 @@ use lib.IntN.{ℤ, pos, negsuc, natAbs, _+ℤ_, _-ℤ_}
 use lib.Signed.{quotZ}
 use Rattle.model.specs.Grid.{floorDiv}
 use Rattle.model.specs.Values.{raised}
-use Rattle.model.specs.Rounding.{Rounding}
 use Rattle.model.specs.Index.{up, down}
+use Rattle.model.specs.Rounding.{Rounding}
 use Rattle.model.proofs.IntegerLaws.{sub-pos, abs-is}
 use Rattle.model.proofs.ValueLaws.{raised-back}
 

@@ -21,13 +21,13 @@ use Rattle.model.specs.Book.{Power, Setting, Settings, Problem, readBook
 use Rattle.model.specs.Choice.{Choice, IsChoice, worthOf, codeOf, sumIn, noSetting, settingNumbered}
 use Rattle.model.specs.Grid.{Slot, slotsFrom, slotsOf}
 use Rattle.model.specs.Sheet.{lf, numbersOf, firstLine, slotLine, slotLines, sheetBytes, sheetLength}
-use Rattle.model.specs.SheetReader.{SheetOf, SheetData, consBoth, choiceFrom, trialsOn, readAs, sheetData, readerResult}
+use Rattle.model.specs.SheetReader.{SheetOf, SheetData, consBoth, choiceFrom, trialsOn, ifBelongs, sheetChoice, sheetData, readerResult}
 use Rattle.model.specs.Valid.{Numbered, Labelled}
 use Rattle.model.proofs.ListLaws.{length-concat, same-eq, same-refl}
 use Rattle.model.proofs.FrameLaws.{length-digits, field-back, field-below}
-use Rattle.model.proofs.RefusalLaws.{refused-done, done-same, checked-done, first-passed, first-none}
+use Rattle.model.proofs.RefusalLaws.{refused-done, then-done, done-same, checked-done, first-passed, first-none}
 use Rattle.model.proofs.ChoiceLaws.{choice-every}
-use Rattle.model.proofs.ReaderLaws.{book-valid}
+use Rattle.model.proofs.ValidLaws.{book-valid}
 
 -- ---- the length
 
@@ -187,8 +187,53 @@ dataOf c t = record { code = codeOf c; worth = worthOf c; trials = t }
 abbrev foreign : Problem → List ℕ → Choice → ℕ → List Rule
 foreign b sheet c t = (not (sameLists eqb sheet (sheetBytes b c t)) ⇒ ForeignSheet) ∷ []
 
+module _ (sheet : List ℕ) (b : Problem) where
+  -- of the sheet of a choice and trials, both are read back
+  module _ (s : SheetOf b sheet) where
+    plain : sheet ≡ sheetBytes b (s .choice) (s .trials) ++ []
+    plain = s .bytes ∙ sym (append-nil (sheetBytes b (s .choice) (s .trials)))
+
+    pub trials-back : trialsOn sheet ≡ s .trials
+    trials-back = trials-on b (s .choice) (s .trials) sheet [] plain (s .bound)
+
+    pub choice-accepted : Every Labelled (b .loads) → sheetChoice sheet b ≡ done (s .choice)
+    unfolding sheetChoice
+    choice-accepted labels =
+        ap (ifBelongs sheet b)
+        (choice-back sheet 0 (b .loads) (s .choice) (s .of-book) labels
+        (λ j l. ap (λ i. field sheet (18 + 2 * i) 2) (zero-add j)
+        ∙ numbers-on b (s .choice) (s .trials) sheet [] plain (numbers-small (b .loads) (s .choice) labels (s .of-book)) noSetting j l))
+        ∙ ap (λ n. checked 0 (first (foreign b sheet (s .choice) n)) (done (s .choice))) trials-back
+        ∙ ap (λ f. checked 0 f (done (s .choice))) (first-none (foreign b sheet (s .choice) (s .trials)) (ap not own, tt))
+      where
+        own : sameLists eqb sheet (sheetBytes b (s .choice) (s .trials)) ≡ true
+        own = ap (sameLists eqb sheet) (sym (s .bytes)) ∙ same-refl sheet
+
+  -- and where a choice is read, the sheet is that of the choice and the trials on it
+  pub choice-only : (c : Choice) → sheetChoice sheet b ≡ done c → (s : SheetOf b sheet) × (s .choice ≡ c) × (s .trials ≡ trialsOn sheet)
+  unfolding sheetChoice
+  choice-only c q = go (choiceFrom sheet 0 (b .loads)) refl q
+    where
+      go : (m : Option Choice) → choiceFrom sheet 0 (b .loads) ≡ m → ifBelongs sheet b m ≡ done c
+          → (s : SheetOf b sheet) × (s .choice ≡ c) × (s .trials ≡ trialsOn sheet)
+      go none p q = absurd (refused-done ForeignSheet 0 c q)
+      go (some d) p q =
+          let k : (first (foreign b sheet d (trialsOn sheet)) ≡ Passed) × (Path (Result Choice) (done d) (done c))
+          = checked-done 0 (first (foreign b sheet d (trialsOn sheet))) (done d) c q in (
+            record {
+              choice = d;
+              of-book = choice-is sheet 0 (b .loads) d p;
+              trials = trialsOn sheet;
+              bound = field-below sheet 10 8;
+              bytes = same-eq sheet (sheetBytes b d (trialsOn sheet))
+                  (not-false (sameLists eqb sheet (sheetBytes b d (trialsOn sheet))) (first-passed (foreign b sheet d (trialsOn sheet)) (k .0) .0));
+            },
+            done-same d c (k .1),
+            refl,
+          )
+
 module _ (book sheet : List ℕ) (b : Problem) (e : readBook book ≡ done b) where
-  read-one : readerResult book sheet ≡ readAs sheet b (choiceFrom sheet 0 (b .loads))
+  read-one : readerResult book sheet ≡ andThen (sheetChoice sheet b) (λ c. done (dataOf c (trialsOn sheet)))
   unfolding readerResult sheetData
   read-one = ap (λ x. andThen x (sheetData sheet)) e
 
@@ -196,38 +241,13 @@ module _ (book sheet : List ℕ) (b : Problem) (e : readBook book ≡ done b) wh
   pub reader-accepts : (s : SheetOf b sheet) → readerResult book sheet ≡ done (dataOf (s .choice) (s .trials))
   reader-accepts s =
       read-one
-      ∙ ap (readAs sheet b)
-      (choice-back sheet 0 (b .loads) (s .choice) (s .of-book) labels
-      (λ j l. ap (λ i. field sheet (18 + 2 * i) 2) (zero-add j)
-      ∙ numbers-on b (s .choice) (s .trials) sheet [] plain (numbers-small (b .loads) (s .choice) labels (s .of-book)) noSetting j l))
-      ∙ ap (λ n. checked 0 (first (foreign b sheet (s .choice) n)) (done (dataOf (s .choice) n))) (trials-on b (s .choice) (s .trials) sheet [] plain (s .bound))
-      ∙ ap (λ f. checked 0 f (done (dataOf (s .choice) (s .trials)))) (first-none (foreign b sheet (s .choice) (s .trials)) (ap not own, tt))
-    where
-      labels : Every Labelled (b .loads)
-      labels = book-valid book b e .loads .labels
-
-      plain : sheet ≡ sheetBytes b (s .choice) (s .trials) ++ []
-      plain = s .bytes ∙ sym (append-nil (sheetBytes b (s .choice) (s .trials)))
-
-      own : sameLists eqb sheet (sheetBytes b (s .choice) (s .trials)) ≡ true
-      own = ap (sameLists eqb sheet) (sym (s .bytes)) ∙ same-refl sheet
+      ∙ ap (λ x. andThen x (λ c. done (dataOf c (trialsOn sheet)))) (choice-accepted sheet b s (book-valid book b e .loads .labels))
+      ∙ ap (λ t. done (dataOf (s .choice) t)) (trials-back sheet b s)
 
   -- and nothing else is
   pub reader-only : (x : SheetData) → readerResult book sheet ≡ done x → (s : SheetOf b sheet) × (x ≡ dataOf (s .choice) (s .trials))
-  reader-only x q = go (choiceFrom sheet 0 (b .loads)) refl (sym read-one ∙ q)
-    where
-      go : (m : Option Choice) → choiceFrom sheet 0 (b .loads) ≡ m → readAs sheet b m ≡ done x → (s : SheetOf b sheet) × (x ≡ dataOf (s .choice) (s .trials))
-      go none p q = absurd (refused-done ForeignSheet 0 x q)
-      go (some c) p q =
-          let k : (first (foreign b sheet c (trialsOn sheet)) ≡ Passed) × (Path (Result SheetData) (done (dataOf c (trialsOn sheet))) (done x))
-          = checked-done 0 (first (foreign b sheet c (trialsOn sheet))) (done (dataOf c (trialsOn sheet))) x q in (
-            record {
-              choice = c;
-              of-book = choice-is sheet 0 (b .loads) c p;
-              trials = trialsOn sheet;
-              bound = field-below sheet 10 8;
-              bytes = same-eq sheet (sheetBytes b c (trialsOn sheet))
-                  (not-false (sameLists eqb sheet (sheetBytes b c (trialsOn sheet))) (first-passed (foreign b sheet c (trialsOn sheet)) (k .0) .0));
-            },
-            sym (done-same (dataOf c (trialsOn sheet)) x (k .1)),
-          )
+  reader-only x q =
+      let k : (c : Choice) × (sheetChoice sheet b ≡ done c) × (Path (Result SheetData) (done (dataOf c (trialsOn sheet))) (done x))
+      = then-done (sheetChoice sheet b) (λ c. done (dataOf c (trialsOn sheet))) x (sym read-one ∙ q) in
+      let y = choice-only sheet b (k .0) (k .1) in
+      (y .0, sym (done-same (dataOf (k .0) (trialsOn sheet)) x (k .2)) ∙ ap₂ dataOf (sym (y .1)) (sym (y .2)))

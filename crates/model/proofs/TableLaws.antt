@@ -77,8 +77,6 @@ choices-within r n slots loads h =
     (λ c e k. within-all r n slots (h .for) c (omega (arith, h .few)) k)
     (h .keeps)
 
--- ---- what a cell holds: the best of the choices whose pairs are its own
-
 -- ---- H is the number of cells that hold something
 
 kept-within : (r : ℕ) (slots : List Slot) (cs : List Choice)

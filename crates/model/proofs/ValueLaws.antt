@@ -20,7 +20,7 @@ use Rattle.model.specs.Index.{up, down}
 use Rattle.model.proofs.ListLaws.{every-at}
 use Rattle.model.proofs.UptoLaws.{suc-across, getD-upto, take-upto, upto-is}
 use Rattle.model.proofs.IntegerLaws.{split, sub-pos, sub-neg, abs-sub}
-use Rattle.model.proofs.ReaderLaws.{book-valid}
+use Rattle.model.proofs.ValidLaws.{book-valid}
 
 pub raised-back : (q : ℤ) → natAbs q ≤ 32768 → lowered (raised q) ≡ q
 unfolding raised

@@ -7,6 +7,7 @@ use lib.IntN.{ℤ, pos, natAbs}
 use lib.ListN.{length}
 use Rattle.model.specs.declared.Refusal.the-variants.{Unterminated, NotHex, WrongKind, SlotsOrOptionsOutOfRange, WrongLength, LoadsOrFinenessOutOfRange, ReactiveExceedsActive, TrailingBytes}
 use Rattle.model.specs.Lists.{within, upto, all, any, isEmpty}
+use Rattle.model.specs.Bounds.{mostSlots, mostLoads, mostFineness, mostOptions}
 use Rattle.model.specs.Frames.{isDigit, field, signed, hasLine, lineOf, afterLine}
 use Rattle.model.specs.Refusals.{Result, done, Rule, _⇒_, first, checked, andThen}
 
@@ -108,9 +109,9 @@ unfoldable pub headerRules : List ℕ → List Rule
 headerRules line =
     hexRule line
     ∷ kindRule 1 line
-    ∷ (not (within 1 4 (slotCount line)) ⇒ SlotsOrOptionsOutOfRange)
+    ∷ (not (within 1 mostSlots (slotCount line)) ⇒ SlotsOrOptionsOutOfRange)
     ∷ (not (eqb (length line) (16 + 4 * slotCount line)) ⇒ WrongLength)
-    ∷ (not (within 1 24 (loadCount line) && within 1 64 (finenessIn line)) ⇒ LoadsOrFinenessOutOfRange)
+    ∷ (not (within 1 mostLoads (loadCount line) && within 1 mostFineness (finenessIn line)) ⇒ LoadsOrFinenessOutOfRange)
     ∷ []
 
 -- |Q| > P
@@ -126,7 +127,7 @@ unfoldable pub loadRules : ℕ → List ℕ → List Rule
 loadRules t line =
     hexRule line
     ∷ kindRule 2 line
-    ∷ (not (within 1 3 (optionCount line)) ⇒ SlotsOrOptionsOutOfRange)
+    ∷ (not (within 1 mostOptions (optionCount line)) ⇒ SlotsOrOptionsOutOfRange)
     ∷ (not (eqb (length line) (optionStart t (optionCount line))) ⇒ WrongLength)
     ∷ (someExceeds (options t line) ⇒ ReactiveExceedsActive)
     ∷ []

@@ -1,36 +1,24 @@
--- What a planner answers and leaves in the lent bytes, and which words the planner may change (document 01, "The sheet", "Trials and the work area",
--- "Refusals by number" 9 to 12).
+-- The planner's result, and which words it may change (document 01, "Trials and the work area", "Refusals by number" 9 to 12).
 use Prim.Native.Nat.{ℕ}
-use mathlib.Core.List.{List, [], _∷_, _++_}
+use mathlib.Core.List.{List, [], _∷_}
 use mathlib.Core.Option.{Option, none, some}
 use lib.Dec.{ltb}
-use lib.ListN.{length, drop}
-use Rattle.model.specs.declared.Answer.{Answer}
-use Rattle.model.specs.declared.Refusal.the-variants.{TooManyCells, WorkTooSmall, BufferTooSmall, BudgetExceeded}
-use Rattle.model.specs.Refusals.{Result, refused, done, Rule, _⇒_, first, checked, andThen, numberOf}
+use Rattle.model.specs.declared.Refusal.the-variants.{TooManyCells, WorkTooSmall, BudgetExceeded}
+use Rattle.model.specs.Bounds.{mostCells}
+use Rattle.model.specs.Refusals.{Result, refused, done, Rule, _⇒_, first, checked, andThen}
+use Rattle.model.specs.Answers.{Output, roomRule}
 use Rattle.model.specs.Book.{Problem, readBook}
 use Rattle.model.specs.Choice.{Choice}
 use Rattle.model.specs.Grid.{plan}
 use Rattle.model.specs.Trials.{cells, neededWords, trials}
-use Rattle.model.specs.Sheet.{Sheet, sheetOf, sheetLength}
-
--- "The answer has a number, a line, the bytes written, the worth and the trials. Success has number 0 and line 0"; "A refusal has bytes,
--- worth and trials 0"
-abbrev pub answerOf : Result Sheet → Answer
-answerOf (refused r number) = record { number = numberOf r; line = number; bytes = 0; worth = 0; trials = 0 }
-answerOf (done s) = record { number = 0; line = 0; bytes = length (s .bytes); worth = s .worth; trials = s .trials }
-
--- "Bytes of the buffer past the sheet keep their values"; a refusal "changes no byte of the sheet buffer"
-abbrev pub bufferAfter : Result Sheet → List ℕ → List ℕ
-bufferAfter (refused r number) before = before
-bufferAfter (done s) before = s .bytes ++ drop (length (s .bytes)) before
+use Rattle.model.specs.Sheet.{sheetOf, sheetLength}
 
 -- "Then 8 to 13", with line 0. 9: "cells over 1,048,576"; 10: "work area under 4 × cells words"; 11: "buffer shorter than the sheet"
 unfoldable pub sizeRules : Problem → ℕ → ℕ → List Rule
 sizeRules b words room =
-    (ltb 1_048_576 (cells b) ⇒ TooManyCells)
+    (ltb mostCells (cells b) ⇒ TooManyCells)
     ∷ (ltb words (neededWords b) ⇒ WorkTooSmall)
-    ∷ (ltb room (sheetLength b) ⇒ BufferTooSmall)
+    ∷ roomRule (sheetLength b) room
     ∷ []
 
 -- a book that was read, after refusals 9 to 11, for a work area of so many words and a buffer with room for so many bytes
@@ -41,18 +29,18 @@ fitting words room b = checked 0 (first (sizeRules b words room)) (done b)
 unfoldable pub fittingBook : List ℕ → ℕ → ℕ → Result Problem
 fittingBook bytes words room = andThen (readBook bytes) (fitting words room)
 
--- "The choice of all standing always is" admitted, so a book that was read has a plan (proofs/ReaderLaws, `plan-some`) and `none` does not occur
+-- "The choice of all standing always is" admitted, so a book that was read has a plan (proofs/ValidLaws, `plan-some`) and `none` does not occur
 abbrev pub choiceOr : Option Choice → Choice
 choiceOr none = []
 choiceOr (some c) = c
 
 -- 12: "trials over the budget"; else the plan's sheet. "The result carries the planner's count, and it equals this number"
-unfoldable pub planSheet : Problem → Result Sheet
+unfoldable pub planSheet : Problem → Result Output
 planSheet b =
     checked 0 (first ((ltb (b .budget) (trials b) ⇒ BudgetExceeded) ∷ [])) (done (sheetOf b (choiceOr (plan b)) (trials b)))
 
 -- the planner's result, of the book's bytes, the number of words and the room: "no answer depends on what they held before"
-unfoldable pub plannerResult : List ℕ → ℕ → ℕ → Result Sheet
+unfoldable pub plannerResult : List ℕ → ℕ → ℕ → Result Output
 plannerResult bytes words room = andThen (fittingBook bytes words room) planSheet
 
 -- "Refusals 1 to 11 change no word of the work area"; after a sheet or refusal 12 the needed words are free

@@ -10,8 +10,8 @@ use Rattle.model.specs.Book.{Problem, readBook, standing}
 use Rattle.model.specs.Choice.{Choice, IsChoice, worthOf, sumIn, square, apparentSquared}
 
 -- P² + Q², of a choice's true sums in a slot; slots are counted from 0 to T - 1
-abbrev pub P²+Q² : ℕ → Choice → ℕ
-P²+Q² slot c = apparentSquared (sumIn slot c)
+abbrev pub apparentSquaredIn : ℕ → Choice → ℕ
+apparentSquaredIn slot c = apparentSquared (sumIn slot c)
 
 -- the limit there
 abbrev pub S : Problem → ℕ → ℕ
@@ -35,7 +35,7 @@ closerBound d s = square (2 * d + 3) * square s
 
 -- M-106: "each slot of its sheet keeps 4 × d² × (P² + Q²) at or below (2d + 3)² × S²"
 abbrev pub CloserOverload : Problem → Choice → Type 0
-CloserOverload b choice = (slot : ℕ) → slot < T b → 4 * square (b .fineness) * P²+Q² slot choice ≤ closerBound (b .fineness) (S b slot)
+CloserOverload b choice = (slot : ℕ) → slot < T b → 4 * square (b .fineness) * apparentSquaredIn slot choice ≤ closerBound (b .fineness) (S b slot)
 
 pub record Demand3 (book sheet : List ℕ) : Type 0 where
   -- the book as it is read, with N loads and fineness d, and the sheet's choice
@@ -44,11 +44,11 @@ pub record Demand3 (book sheet : List ℕ) : Type 0 where
   pub choice : Choice
   pub on-sheet : OnSheet b sheet choice
   -- "the sheet's choice is worth at least as much as every other choice that keeps P² + Q² ≤ S² in every slot"
-  pub worth : (other : Choice) → IsChoice (b .loads) other → ((slot : ℕ) → slot < T b → P²+Q² slot other ≤ square (S b slot))
+  pub worth : (other : Choice) → IsChoice (b .loads) other → ((slot : ℕ) → slot < T b → apparentSquaredIn slot other ≤ square (S b slot))
       → worthOf other ≤ worthOf choice
   -- the next three have no condition on other choices: "whether or not another choice keeps the limits"
   pub closer : CloserOverload b choice
   -- "The older bound then follows from this one": "it keeps d²(P² + Q²) ≤ (d + 2)²S² in every slot"
-  pub overload : (slot : ℕ) → slot < T b → square (b .fineness) * P²+Q² slot choice ≤ square (b .fineness + 2) * square (S b slot)
+  pub overload : (slot : ℕ) → slot < T b → square (b .fineness) * apparentSquaredIn slot choice ≤ square (b .fineness + 2) * square (S b slot)
   -- "and P² + Q² ≤ S² in every slot where S < 2Nd"
-  pub exact : (slot : ℕ) → slot < T b → S b slot < 2 * (N b * b .fineness) → P²+Q² slot choice ≤ square (S b slot)
+  pub exact : (slot : ℕ) → slot < T b → S b slot < 2 * (N b * b .fineness) → apparentSquaredIn slot choice ≤ square (S b slot)

@@ -2,9 +2,11 @@
 use Prim.Native.Nat.{ℕ}
 use mathlib.Core.List.{List, _++_}
 use lib.ListN.{take}
+use Rattle.model.specs.Bounds.{mostSheet, programBytes, programWords}
 use Rattle.model.specs.Frames.{digits}
 use Rattle.model.specs.Refusals.{Result, refused, done, numberOf}
-use Rattle.model.specs.Sheet.{Sheet, lf}
+use Rattle.model.specs.Answers.{Output}
+use Rattle.model.specs.Sheet.{lf}
 use Rattle.model.specs.Calls.{plannerResult}
 
 -- "one line `FF`, number (2 digits), line (4 digits), ended by LF"
@@ -12,10 +14,10 @@ unfoldable pub refusalLine : ℕ → ℕ → List ℕ
 refusalLine number line = digits 2 255 ++ digits 2 number ++ digits 4 line ++ lf
 
 -- "prints the planner's sheet, or one line"
-abbrev pub printed : Result Sheet → List ℕ
+abbrev pub printed : Result Output → List ℕ
 printed (refused r number) = refusalLine (numberOf r) number
 printed (done s) = s .bytes
 
 -- "takes the first 4,096 bytes of its input as the book", "lends 6,144 words"; the longest sheet has 159 bytes
 unfoldable pub programOutput : List ℕ → List ℕ
-programOutput input = printed (plannerResult (take 4096 input) 6144 159)
+programOutput input = printed (plannerResult (take programBytes input) programWords mostSheet)

@@ -4,15 +4,10 @@ use mathlib.Core.List.{List, [], _∷_, _++_, map}
 use lib.ListN.{length}
 use Rattle.model.specs.Lists.{concat}
 use Rattle.model.specs.Frames.{digits, unsigned}
+use Rattle.model.specs.Answers.{Output}
 use Rattle.model.specs.Book.{Power, Problem}
 use Rattle.model.specs.Choice.{Choice, worthOf, sumIn}
 use Rattle.model.specs.Grid.{Slot, slotsOf}
-
--- what a planner gives: the bytes, the worth and the trials
-pub record Sheet : Type 0 where
-  pub bytes : List ℕ
-  pub worth : ℕ
-  pub trials : ℕ
 
 -- "each line ended by one LF"
 abbrev pub lf : List ℕ
@@ -37,7 +32,7 @@ slotLines slots c = concat (map (λ s. slotLine (s .limit) (sumIn (s .place) c))
 unfoldable pub sheetBytes : Problem → Choice → ℕ → List ℕ
 sheetBytes b c t = firstLine c t ++ slotLines (slotsOf b) c
 
-abbrev pub sheetOf : Problem → Choice → ℕ → Sheet
+abbrev pub sheetOf : Problem → Choice → ℕ → Output
 sheetOf b c t = record { bytes = sheetBytes b c t; worth = worthOf c; trials = t }
 
 -- how many bytes every sheet for this book has

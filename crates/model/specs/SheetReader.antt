@@ -9,7 +9,8 @@ use Rattle.model.specs.declared.SheetAnswer.{SheetAnswer}
 use Rattle.model.specs.declared.Refusal.the-variants.{ForeignSheet}
 use Rattle.model.specs.Lists.{sameLists}
 use Rattle.model.specs.Frames.{field}
-use Rattle.model.specs.Refusals.{Result, refused, done, _⇒_, first, checked, andThen, numberOf}
+use Rattle.model.specs.Refusals.{Result, refused, done, _⇒_, first, checked, andThen}
+use Rattle.model.specs.Answers.{successAnswer, refusalAnswer}
 use Rattle.model.specs.Book.{Setting, Settings, Problem, readBook}
 use Rattle.model.specs.Choice.{Choice, IsChoice, codeOf, worthOf, settingNumbered}
 use Rattle.model.specs.Sheet.{sheetBytes}
@@ -44,15 +45,19 @@ trialsOn sheet = field sheet 10 8
 
 -- 13, unless the sheet's bytes are those that the choice and the trials on its own first line give; that is so exactly where there is a `SheetOf`
 -- (proofs/SheetLaws, `reader-accepts` and `reader-only`)
-abbrev pub readAs : List ℕ → Problem → Option Choice → Result SheetData
-readAs sheet b none = refused ForeignSheet 0
-readAs sheet b (some c) =
-    checked 0 (first ((not (sameLists eqb sheet (sheetBytes b c (trialsOn sheet))) ⇒ ForeignSheet) ∷ []))
-    (done (record { code = codeOf c; worth = worthOf c; trials = trialsOn sheet }))
+abbrev pub ifBelongs : List ℕ → Problem → Option Choice → Result Choice
+ifBelongs sheet b none = refused ForeignSheet 0
+ifBelongs sheet b (some c) =
+    checked 0 (first ((not (sameLists eqb sheet (sheetBytes b c (trialsOn sheet))) ⇒ ForeignSheet) ∷ [])) (done c)
+
+-- the choice on a sheet that belongs to the book
+unfoldable pub sheetChoice : List ℕ → Problem → Result Choice
+sheetChoice sheet b = ifBelongs sheet b (choiceFrom sheet 0 (b .loads))
 
 -- the sheet reader's result for one book
 unfoldable pub sheetData : List ℕ → Problem → Result SheetData
-sheetData sheet b = readAs sheet b (choiceFrom sheet 0 (b .loads))
+sheetData sheet b =
+    andThen (sheetChoice sheet b) (λ c. done (record { code = codeOf c; worth = worthOf c; trials = trialsOn sheet }))
 
 -- the sheet reader's result
 unfoldable pub readerResult : List ℕ → List ℕ → Result SheetData
@@ -60,7 +65,5 @@ readerResult book sheet = andThen (readBook book) (sheetData sheet)
 
 -- "with 0 bytes written; the code is 0 on refusal"
 abbrev pub sheetAnswerOf : Result SheetData → SheetAnswer
-sheetAnswerOf (refused r number) =
-    record { number = numberOf r; line = number; bytes = 0; worth = 0; trials = 0; code = 0 }
-sheetAnswerOf (done x) =
-    record { number = 0; line = 0; bytes = 0; worth = x .worth; trials = x .trials; code = x .code }
+sheetAnswerOf (refused r line) = record { answer = refusalAnswer r line; code = 0 }
+sheetAnswerOf (done x) = record { answer = successAnswer 0 (x .worth) (x .trials); code = x .code }

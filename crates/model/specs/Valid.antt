@@ -1,10 +1,11 @@
--- A valid book: what is known of every book that was read (proofs/ReaderLaws, `book-valid`), for the planners to cite.
+-- A valid book: what is known of every book that was read (proofs/ValidLaws, `book-valid`), for the planners to cite.
 use Prim.Native.Nat.{ℕ, suc, _*_, _^_, _<_, _≤_}
 use mathlib.Core.Path.{_≡_}
 use mathlib.Core.List.{List, [], _∷_}
 use lib.IntN.{natAbs}
 use lib.ListN.{length}
 use Rattle.model.specs.Lists.{Every}
+use Rattle.model.specs.Bounds.{mostSlots, mostLoads, mostFineness, mostOptions, mostSettings}
 use Rattle.model.specs.Book.{noPower, Setting, Settings, Problem}
 use Rattle.model.specs.Choice.{powerIn}
 use Rattle.model.specs.Grid.{Slot}
@@ -27,7 +28,7 @@ Numbered i (v ∷ vs) = (v .number ≡ i) × Numbered (suc i) vs
 pub record Labelled (vs : Settings) : Type 0 where
   pub numbered : Numbered 0 vs
   pub several : 1 < length vs
-  pub few : length vs ≤ 4
+  pub few : length vs ≤ mostSettings
 
 -- worth and P are below 2^16, and |Q| is at most 2^15
 pub record SettingSmall (v : Setting) : Type 0 where
@@ -48,11 +49,11 @@ pub record ValidLoads (n t : ℕ) (loads : List Settings) : Type 0 where
 pub record ValidBook (b : Problem) : Type 0 where
   pub loads : ValidLoads (length (b .loads)) (length (b .limits)) (b .loads)
   pub slots-some : 1 ≤ length (b .limits)
-  pub slots-few : length (b .limits) ≤ 4
+  pub slots-few : length (b .limits) ≤ mostSlots
   pub loads-some : 1 ≤ length (b .loads)
-  pub loads-few : length (b .loads) ≤ 24
+  pub loads-few : length (b .loads) ≤ mostLoads
   pub fine-some : 1 ≤ b .fineness
-  pub fine-few : b .fineness ≤ 64
+  pub fine-few : b .fineness ≤ mostFineness
   pub budget-small : b .budget < 2 ^ 32
   pub limits-small : Every (λ s. s < 65536) (b .limits)
 
@@ -71,4 +72,4 @@ pub record Ready (r n : ℕ) (slots : List Slot) (loads : List Settings) : Type 
 
 -- a setting adds at most `top` to the worth, and its number is at most 3
 abbrev pub SettingBelow : ℕ → Setting → Type 0
-SettingBelow top v = (v .worth ≤ top) × (v .number ≤ 3)
+SettingBelow top v = (v .worth ≤ top) × (v .number ≤ mostOptions)

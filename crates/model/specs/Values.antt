@@ -8,10 +8,12 @@ use Rattle.model.specs.declared.Load.{Load}
 use Rattle.model.specs.declared.Book.{Book}
 use Rattle.model.specs.declared.Reading.{Reading}
 use Rattle.model.specs.Lists.{upto}
-use Rattle.model.specs.Refusals.{Result, refused, done, numberOf}
+use Rattle.model.specs.Refusals.{Result, refused, done}
+use Rattle.model.specs.Answers.{bytesOnly, refusalAnswer, answerOf}
 use Rattle.model.specs.Book.{Power, Setting, Settings, Problem}
 use Rattle.model.specs.Choice.{Choice, powerIn, noSetting}
 use Rattle.model.specs.Valid.{ValidBook}
+use Rattle.model.specs.Bounds.{mostSlots, mostLoads, mostSettings, mostPowers}
 
 -- Q + 32,768, which is not negative for a Q of 16 bits
 unfoldable pub raised : ℤ → ℕ
@@ -33,16 +35,16 @@ settingOf vs c = getD vs c noSetting
 
 -- the power at place 4 c + s of a load's arrays: of setting c in slot s
 unfoldable pub powerOf : Settings → ℕ → Power
-powerOf vs k = powerIn (k % 4) (settingOf vs (k / 4))
+powerOf vs k = powerIn (k % mostSlots) (settingOf vs (k / mostSlots))
 
 -- the value that holds a load's settings; past the last setting and slot stand no worth and no power
 unfoldable pub loadValue : Settings → Load
 loadValue vs =
     record {
       settings = length vs;
-      worths = map (λ c. settingOf vs c .worth) (upto 4);
-      actives = map (λ k. powerOf vs k .p) (upto 16);
-      reactives = map (λ k. raised (powerOf vs k .q)) (upto 16);
+      worths = map (λ c. settingOf vs c .worth) (upto mostSettings);
+      actives = map (λ k. powerOf vs k .p) (upto mostPowers);
+      reactives = map (λ k. raised (powerOf vs k .q)) (upto mostPowers);
     }
 
 -- the value that holds a book; past the last load stand loads with no settings
@@ -53,21 +55,19 @@ bookValue b =
       count = length (b .loads);
       fineness = b .fineness;
       budget = b .budget;
-      limits = map (λ s. getD (b .limits) s 0) (upto 4);
-      loads = map (λ k. loadValue (getD (b .loads) k [])) (upto 24);
+      limits = map (λ s. getD (b .limits) s 0) (upto mostSlots);
+      loads = map (λ k. loadValue (getD (b .loads) k [])) (upto mostLoads);
     }
 
 -- a book with nothing in it
 unfoldable pub freshBook : Book
 freshBook =
-    record { slots = 0; count = 0; fineness = 0; budget = 0; limits = replicate 4 0; loads = replicate 24 (loadValue []) }
+    record { slots = 0; count = 0; fineness = 0; budget = 0; limits = replicate mostSlots 0; loads = replicate mostLoads (loadValue []) }
 
--- what the book reader answers: "Success has number 0 and line 0"; it writes no bytes and plans nothing, so bytes, worth and trials are 0
+-- what the book reader answers: it writes no bytes and plans nothing; the book is a fresh one with a refusal
 abbrev pub readingOf : Result Problem → Reading
-readingOf (refused r number) =
-    record { answer = record { number = numberOf r; line = number; bytes = 0; worth = 0; trials = 0 }; book = freshBook }
-readingOf (done b) =
-    record { answer = record { number = 0; line = 0; bytes = 0; worth = 0; trials = 0 }; book = bookValue b }
+readingOf (refused r line) = record { answer = refusalAnswer r line; book = freshBook }
+readingOf (done b) = record { answer = answerOf (done (bytesOnly [])); book = bookValue b }
 
 -- a value that holds a valid book
 pub record Held (v : Book) : Type 0 where
@@ -91,7 +91,7 @@ settingIn t l c =
     record {
       number = c;
       worth = getD (l .worths) c 0;
-      powers = map (λ s. record { p = getD (l .actives) (4 * c + s) 0; q = lowered (getD (l .reactives) (4 * c + s) 0) }) (upto t);
+      powers = map (λ s. record { p = getD (l .actives) (mostSlots * c + s) 0; q = lowered (getD (l .reactives) (mostSlots * c + s) 0) }) (upto t);
     }
 
 abbrev pub settingsIn : ℕ → Load → Settings

@@ -1,8 +1,8 @@
 // The declared types of the load planner. What a value of each says is defined in specs/.
 ghost use mathlib.Core.Path.{_≡_};
 ghost use Prim.Native.Nat.{_+_, _-_};
-ghost use Rattle.model.specs.Refusals.{numberOf, refused};
-ghost use Rattle.model.specs.Calls.{answerOf};
+ghost use Rattle.model.specs.Refusals.{numberOf};
+ghost use Rattle.model.specs.Answers.{successAnswer, refusalAnswer};
 ghost use Rattle.model.specs.Values.{loadValue, freshBook};
 ghost use mathlib.Core.List.{[]};
 
@@ -42,11 +42,7 @@ pub struct Answer {
 // What the sheet reader answers: the code of the sheet's choice after the rest.
 #[repr(C)]
 pub struct SheetAnswer {
-    pub number: u64,
-    pub line: u64,
-    pub bytes: u64,
-    pub worth: u64,
-    pub trials: u64,
+    pub answer: Answer,
     pub code: u64,
 }
 
@@ -54,9 +50,9 @@ pub struct SheetAnswer {
 // the active power actives[4 c + s] and the reactive power reactives[4 c + s] - 32,768.
 pub struct Load {
     pub settings: usize,
-    pub worths: [u64; 4],
-    pub actives: [u64; 16],
-    pub reactives: [u64; 16],
+    pub worths: [u64; Load::SETTINGS],
+    pub actives: [u64; Load::POWERS],
+    pub reactives: [u64; Load::POWERS],
 }
 
 // A book that was read: the header's numbers and limits, and the loads in book order.
@@ -65,8 +61,8 @@ pub struct Book {
     pub count: usize,
     pub fineness: u64,
     pub budget: u64,
-    pub limits: [u64; 4],
-    pub loads: [Load; 24],
+    pub limits: [u64; Book::SLOTS],
+    pub loads: [Load; Book::LOADS],
 }
 
 // What the book reader answers; the book is a fresh one where the answer is a refusal.
@@ -76,20 +72,25 @@ pub struct Reading {
 }
 
 impl Load {
+    // Standing and at most three options; and a power of each setting in each slot.
+    pub const SETTINGS: usize = 4;
+
+    pub const POWERS: usize = 16;
+
     pub fn fresh() -> Load
         ensures { λ r. ⌜ r ≡ loadValue [] ⌝ }
     {
         Load {
             settings: 0,
-            worths: [0; 4],
-            actives: [0; 16],
-            reactives: [32768; 16],
+            worths: [0; Load::SETTINGS],
+            actives: [0; Load::POWERS],
+            reactives: [32768; Load::POWERS],
         }
     }
 }
 
 impl Book {
-    // Document 01's upper bounds of T, N, d and o; each lower bound is 1.
+    // Document 01's upper bounds of T, N, d and o; each lower bound is 1. Then of the cells, and the bytes of the longest sheet.
     pub const SLOTS: usize = 4;
 
     pub const LOADS: usize = 24;
@@ -97,6 +98,10 @@ impl Book {
     pub const FINENESS: u64 = 64;
 
     pub const OPTIONS: usize = 3;
+
+    pub const CELLS: usize = 1048576;
+
+    pub const SHEET: usize = 159;
 
     pub fn fresh() -> Book
         ensures { λ r. ⌜ r ≡ freshBook ⌝ }
@@ -107,14 +112,14 @@ impl Book {
             count: 0,
             fineness: 0,
             budget: 0,
-            limits: [0; 4],
-            loads: [none; 24],
+            limits: [0; Book::SLOTS],
+            loads: [none; Book::LOADS],
         }
     }
 }
 
 impl Refusal {
-    pub fn number(self) -> u64
+    fn number(self) -> u64
         ensures { λ r. ⌜ r ≡ numberOf self ⌝ }
     {
         match self {
@@ -136,8 +141,20 @@ impl Refusal {
 }
 
 impl Answer {
+    pub fn success(bytes: u64, worth: u64, trials: u64) -> Answer
+        ensures { λ a. ⌜ a ≡ successAnswer bytes worth trials ⌝ }
+    {
+        Answer {
+            number: 0,
+            line: 0,
+            bytes,
+            worth,
+            trials,
+        }
+    }
+
     pub fn refusal(r: Refusal, line: u64) -> Answer
-        ensures { λ a. ⌜ a ≡ answerOf (refused r line) ⌝ }
+        ensures { λ a. ⌜ a ≡ refusalAnswer r line ⌝ }
     {
         let number = r.number();
         Answer {

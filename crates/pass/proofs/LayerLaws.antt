@@ -22,7 +22,7 @@ use Rattle.pass.specs.declared.Grid.{Grid}
 use Rattle.pass.specs.declared.LoadMoves.{LoadMoves}
 use Rattle.pass.specs.declared.Stretch.{Stretch}
 use Rattle.pass.specs.declared.Made.{Made}
-use Rattle.pass.specs.Pass.{heldIn, held, tried, sourceOf, moveOf, offerOf, raiseUpto, GridFits, LoadRoom, Offers, Spans, Opened, RowKeys, RowMade, Idle, Reaches, countRows, LayerMade, raisedRows}
+use Rattle.pass.specs.Pass.{heldIn, held, tried, sourceOf, moveOf, offerOf, raiseUpto, GridFits, LoadRoom, Offers, Spans, Opened, RowKeys, RowMade, EmptyFrom, Reaches, countRows, LayerMade, raisedRows}
 use Rattle.pass.proofs.KeyLaws.{shift-from, shift-below, raise-upto, upto-split, upto-same}
 use Rattle.pass.proofs.SourceLaws.{row-end, next-row, held-in, held-low, held-high, source-out, source-column, cond-bounded, Same, offer-same, room-same, rows-same}
 
@@ -279,17 +279,17 @@ layer-total width f h k e = rw (le-antisymm h k) at e
 pub below : {grid : Grid} {load : LoadMoves} {used rows row : ℕ} → Reaches grid load used rows → row < rows → row < grid .rows
 below f l = omega (arith, f .fits)
 
-pub idle-more : {lows highs : List ℕ} {used used′ : ℕ} → used ≤ used′ → Idle lows highs used → Idle lows highs used′
+pub idle-more : {lows highs : List ℕ} {used used′ : ℕ} → used ≤ used′ → EmptyFrom lows highs used → EmptyFrom lows highs used′
 idle-more h i = record { no-low = λ row l. i .no-low row (omega arith); no-high = λ row l. i .no-high row (omega arith) }
 
-pub idle-set : {lows highs : List ℕ} {rows : ℕ} (row a b : ℕ) → row < rows → Idle lows highs rows → Idle (set lows row a) (set highs row b) rows
+pub idle-set : {lows highs : List ℕ} {rows : ℕ} (row a b : ℕ) → row < rows → EmptyFrom lows highs rows → EmptyFrom (set lows row a) (set highs row b) rows
 idle-set {lows} {highs} row a b l i = record {
   no-low = λ j h. getD-set-other lows row j a 0 (λ e. omega arith) ∙ i .no-low j h;
   no-high = λ j h. getD-set-other highs row j b 0 (λ e. omega arith) ∙ i .no-high j h;
 }
 
 module _ {ws ws′ lows highs lows′ highs′ : List ℕ} {grid : Grid} {cur next : ℕ} {load : LoadMoves} {used rows : ℕ}
-    (idle : Idle lows highs used) (idle′ : Idle lows′ highs′ rows) (far : Reaches grid load used rows)
+    (idle : EmptyFrom lows highs used) (idle′ : EmptyFrom lows′ highs′ rows) (far : Reaches grid load used rows)
     (r : LayerMade ws ws′ lows highs lows′ highs′ grid cur next load rows) where
   -- nothing is held in such a row, and nothing comes to it
   rest-none : (row col : ℕ) → rows ≤ row → held ws′ lows′ highs′ next (grid .width) row col ≡ none

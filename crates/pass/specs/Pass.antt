@@ -8,6 +8,7 @@ use mathlib.Core.Option.{Option, none, some}
 use lib.ListN.{getD, length}
 use lib.Dec.{ltb, leb}
 use Rattle.model.specs.Cells.{Key, shift?, joinUpto, isSome, countUpto, Bounded}
+use Rattle.model.specs.Bounds.{mostSlots, mostSettings, mostCells, mostRows}
 use Rattle.table.specs.Table.{cellAt, keyOf}
 use Rattle.pass.specs.declared.SettingMove.{SettingMove}
 use Rattle.pass.specs.declared.Grid.{Grid}
@@ -72,14 +73,14 @@ raiseUpto (suc n) f x = raise (raiseUpto n f x) (f n)
 
 -- ---- what the functions ask
 
--- at most 4 slots, 724 rows and 1,048,576 cells, which the rows and columns make up
+-- the slots, the rows and the cells are within their bounds, and the rows and columns make up the cells
 pub record GridFits (grid : Grid) : Type 0 where
-  pub slots-fit : grid .slots ≤ 4
+  pub slots-fit : grid .slots ≤ mostSlots
   pub tops-fit : (t : ℕ) → t < grid .slots → 0 < getD (grid .tops) t 0
   pub area : grid .rows * grid .width ≡ grid .cells
-  pub rows-fit : grid .rows ≤ 724
-  pub width-fits : grid .width ≤ 1048576
-  pub cells-fit : grid .cells ≤ 1048576
+  pub rows-fit : grid .rows ≤ mostRows
+  pub width-fits : grid .width ≤ mostCells
+  pub cells-fit : grid .cells ≤ mostCells
 
 -- the stretches end within their rows
 pub record StretchesFit (lows highs : List ℕ) (grid : Grid) : Type 0 where
@@ -100,9 +101,9 @@ pub record MoveRoom (ws lows highs : List ℕ) (grid : Grid) (cur gain digit : �
   pub gain-fits : top + 1 + gain < 2 ^ 64
   pub digit-fits : unit + digit ≤ 2 ^ 64
 
--- at most 4 settings, each of which fits
+-- no more settings than a load can have, each of which fits
 pub record LoadFits (grid : Grid) (load : LoadMoves) : Type 0 where
-  pub count-fits : load .count ≤ 4
+  pub count-fits : load .count ≤ mostSettings
   pub each : (n : ℕ) → n < load .count → MoveFits grid (moveOf load n)
 
 -- each cell of the current layer has room for each setting's gain and digit: worths are at most `top`, and codes below `unit`. The digits ascend
@@ -182,7 +183,7 @@ pub record RowMade (ws ws′ lows highs : List ℕ) (grid : Grid) (cur next : �
   pub count-fits : r .count ≤ grid .width
 
 -- from row `used` on nothing is held
-pub record Idle (lows highs : List ℕ) (used : ℕ) : Type 0 where
+pub record EmptyFrom (lows highs : List ℕ) (used : ℕ) : Type 0 where
   pub no-low : (row : ℕ) → used ≤ row → getD lows row 0 ≡ 0
   pub no-high : (row : ℕ) → used ≤ row → getD highs row 0 ≡ 0
 
@@ -200,8 +201,8 @@ countRows (suc n) width f = countRows n width f + countUpto width (λ col. isSom
 -- the first n rows of the next layer made from the current one
 pub record LayerMade (ws ws′ lows highs lows′ highs′ : List ℕ) (grid : Grid) (cur next : ℕ) (load : LoadMoves) (n : ℕ) : Type 0 where
   pub same-length : length ws′ ≡ length ws
-  pub low-length : length lows′ ≡ 724
-  pub high-length : length highs′ ≡ 724
+  pub low-length : length lows′ ≡ mostRows
+  pub high-length : length highs′ ≡ mostRows
   pub low-fits : (row : ℕ) → row < n → getD lows′ row 0 ≤ grid .width
   pub high-fits : (row : ℕ) → row < n → getD highs′ row 0 ≤ grid .width
   pub inside : (row col : ℕ) → row < n → col < grid .width → held ws′ lows′ highs′ next (grid .width) row col

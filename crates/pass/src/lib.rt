@@ -1,12 +1,15 @@
 // One load's pass over the table: each row of the next layer is emptied where something can reach it, and is then offered, for each
 // setting in ascending order, the row that lies as far back as the setting's active powers say. Of each row only a stretch of columns
 // counts.
+use model::Book;
+use model::Load;
 ghost use mathlib.Core.Path.{_≡_};
 ghost use mathlib.Core.Bool.{true};
 ghost use Prim.Native.Nat.{ℕ, _+_, _-_, _*_, _^_, _<_, _≤_};
 ghost use lib.ListN.{length, getD};
+ghost use Rattle.model.specs.Bounds.{mostSlots, mostSettings, mostCells, mostRows};
 ghost use Rattle.table.specs.Table.{Rows};
-ghost use Rattle.pass.specs.Pass.{coversFrom, GridFits, StretchesFit, MoveFits, MoveRoom, LoadFits, LoadRoom, Clipped, Part, Joined, Spans, Ends, RowKeys, Opened, moveOf, RowMade, Idle, Reaches, LayerMade, raisedRow, raisedRows, held, countRows};
+ghost use Rattle.pass.specs.Pass.{coversFrom, GridFits, StretchesFit, MoveFits, MoveRoom, LoadFits, LoadRoom, Clipped, Part, Joined, Spans, Ends, RowKeys, Opened, moveOf, RowMade, EmptyFrom, Reaches, LayerMade, raisedRow, raisedRows, held, countRows};
 
 // What a setting does to a cell: the worth it adds, its digit in the code, how many rows back its source row is, how far the columns
 // move up and down, and its active coordinates.
@@ -16,13 +19,13 @@ pub struct SettingMove {
     pub back: usize,
     pub up: usize,
     pub down: usize,
-    pub active: [usize; 4],
+    pub active: [usize; Book::SLOTS],
 }
 
 // What the settings of a load do, by ascending number; standing is the first of them.
 pub struct LoadMoves {
     pub count: usize,
-    pub moves: [SettingMove; 4],
+    pub moves: [SettingMove; Load::SETTINGS],
 }
 
 // The table's geometry: its cells, the columns of a row, the rows, and for each slot how many active values it has.
@@ -31,7 +34,12 @@ pub struct Grid {
     pub width: usize,
     pub rows: usize,
     pub slots: usize,
-    pub tops: [usize; 4],
+    pub tops: [usize; Book::SLOTS],
+}
+
+impl Grid {
+    // No table of at most 1,048,576 cells has more rows (model/specs/Bounds.antt says why).
+    pub const ROWS: usize = 724;
 }
 
 // The columns from `low` to before `high`; none where low is not below high.
@@ -48,8 +56,13 @@ pub struct Made {
 }
 
 // Whether a row's active coordinate is at least `active` in every slot.
-pub fn covers(row: usize, slots: usize, tops: [usize; 4], active: [usize; 4]) -> bool
-    requires { ⌜ slots ≤ 4 ⌝ }
+fn covers(
+    row: usize,
+    slots: usize,
+    tops: [usize; Book::SLOTS],
+    active: [usize; Book::SLOTS],
+) -> bool
+    requires { ⌜ slots ≤ mostSlots ⌝ }
     requires { ⌜ ((t : ℕ) → t < slots → 0 < getD tops t 0) ⌝ }
     ensures { λ r. ⌜ r ≡ coversFrom tops active 0 slots row ⌝ }
 {
@@ -67,8 +80,8 @@ pub fn covers(row: usize, slots: usize, tops: [usize; 4], active: [usize; 4]) ->
 }
 
 // The columns to which a shift by `up` and `down` takes a stretch, within a row.
-pub fn clip(low: usize, high: usize, up: usize, down: usize, width: usize) -> Stretch
-    requires { ⌜ (low ≤ 1048576) × (high ≤ 1048576) × (up ≤ 1099511627776) × (down ≤ 1099511627776) ⌝ }
+fn clip(low: usize, high: usize, up: usize, down: usize, width: usize) -> Stretch
+    requires { ⌜ (low ≤ mostCells) × (high ≤ mostCells) × (up ≤ 1099511627776) × (down ≤ 1099511627776) ⌝ }
     ensures { λ r. ⌜ Clipped low high up down width r ⌝ }
 {
     if high + up <= down {
@@ -101,10 +114,10 @@ pub fn clip(low: usize, high: usize, up: usize, down: usize, width: usize) -> St
 }
 
 // The columns of a row to which a setting offers something.
-pub fn part_of(
+fn part_of(
     grid: Grid,
-    lows: &[usize; 724],
-    highs: &[usize; 724],
+    lows: &[usize; Grid::ROWS],
+    highs: &[usize; Grid::ROWS],
     row: usize,
     mv: SettingMove,
 ) -> Stretch
@@ -134,7 +147,7 @@ pub fn part_of(
 
 impl Stretch {
     // The least stretch that holds both.
-    pub fn joined(self, part: Stretch) -> Stretch
+    fn joined(self, part: Stretch) -> Stretch
         ensures { λ r. ⌜ Joined self part r ⌝ }
     {
         if part.high <= part.low {
@@ -163,10 +176,10 @@ impl Stretch {
 }
 
 // The stretch of a row that a load's settings can reach.
-pub fn span_of(
+fn span_of(
     grid: Grid,
-    lows: &[usize; 724],
-    highs: &[usize; 724],
+    lows: &[usize; Grid::ROWS],
+    highs: &[usize; Grid::ROWS],
     row: usize,
     load: LoadMoves,
 ) -> Stretch
@@ -198,13 +211,13 @@ fn source_cell(grid: Grid, cur: usize, row: usize, mv: SettingMove, part: Stretc
 }
 
 // Offers one row of the next layer what a setting brings there.
-pub fn setting_row(
+fn setting_row(
     work: &mut [u64],
     grid: Grid,
     cur: usize,
     next: usize,
-    lows: &[usize; 724],
-    highs: &[usize; 724],
+    lows: &[usize; Grid::ROWS],
+    highs: &[usize; Grid::ROWS],
     row: usize,
     mv: SettingMove,
 )
@@ -225,13 +238,13 @@ pub fn setting_row(
 }
 
 // Offers one row of the next layer what each setting from `first` on brings there, in turn.
-pub fn settings_row(
+fn settings_row(
     work: &mut [u64],
     grid: Grid,
     cur: usize,
     next: usize,
-    lows: &[usize; 724],
-    highs: &[usize; 724],
+    lows: &[usize; Grid::ROWS],
+    highs: &[usize; Grid::ROWS],
     row: usize,
     load: LoadMoves,
     first: usize,
@@ -275,8 +288,8 @@ fn open_row(
     grid: Grid,
     cur: usize,
     next: usize,
-    lows: &[usize; 724],
-    highs: &[usize; 724],
+    lows: &[usize; Grid::ROWS],
+    highs: &[usize; Grid::ROWS],
     row: usize,
     load: LoadMoves,
     s: Stretch,
@@ -306,13 +319,13 @@ fn open_row(
 }
 
 // Makes one row of the next layer, and counts its reached cells where that is asked for.
-pub fn load_row(
+fn load_row(
     work: &mut [u64],
     grid: Grid,
     cur: usize,
     next: usize,
-    lows: &[usize; 724],
-    highs: &[usize; 724],
+    lows: &[usize; Grid::ROWS],
+    highs: &[usize; Grid::ROWS],
     row: usize,
     load: LoadMoves,
     asked: bool,
@@ -347,7 +360,7 @@ pub fn load_row(
 
 // How many rows of the next layer a load can reach, where `used` rows of the current one are.
 pub fn reach_of(grid: Grid, load: LoadMoves, used: usize) -> usize
-    requires { ⌜ (load .count ≤ 4) × (used ≤ grid .rows) ⌝ }
+    requires { ⌜ (load .count ≤ mostSettings) × (used ≤ grid .rows) ⌝ }
     ensures { λ r. ⌜ Reaches grid load used r ⌝ }
 {
     let count = load.count;
@@ -363,7 +376,7 @@ pub fn reach_of(grid: Grid, load: LoadMoves, used: usize) -> usize
 }
 
 // The greater of r and used + back, but at most rows.
-pub fn farther(r: usize, used: usize, back: usize, rows: usize) -> usize
+fn farther(r: usize, used: usize, back: usize, rows: usize) -> usize
     requires { ⌜ (used ≤ r) × (r ≤ rows) ⌝ }
     ensures { λ q. ⌜ (r ≤ q) × (q ≤ rows) × ((row : ℕ) → q ≤ row → row < rows → used + back ≤ row) ⌝ }
 {
@@ -383,10 +396,10 @@ pub fn load_pass(
     grid: Grid,
     cur: usize,
     next: usize,
-    lows: &[usize; 724],
-    highs: &[usize; 724],
-    newlows: &mut [usize; 724],
-    newhighs: &mut [usize; 724],
+    lows: &[usize; Grid::ROWS],
+    highs: &[usize; Grid::ROWS],
+    newlows: &mut [usize; Grid::ROWS],
+    newhighs: &mut [usize; Grid::ROWS],
     load: LoadMoves,
     used: usize,
     rows: usize,
@@ -397,11 +410,11 @@ pub fn load_pass(
     requires { ⌜ StretchesFit (now lows) (now highs) grid ⌝ }
     requires { ⌜ LoadFits grid load ⌝ }
     requires { ⌜ LoadRoom (now work) (now lows) (now highs) grid cur load ⌝ }
-    requires { ⌜ (length (now newlows) ≡ 724) × (length (now newhighs) ≡ 724) ⌝ }
-    requires { ⌜ Idle (now lows) (now highs) used ⌝ }
-    requires { ⌜ Idle (now newlows) (now newhighs) rows ⌝ }
+    requires { ⌜ (length (now newlows) ≡ mostRows) × (length (now newhighs) ≡ mostRows) ⌝ }
+    requires { ⌜ EmptyFrom (now lows) (now highs) used ⌝ }
+    requires { ⌜ EmptyFrom (now newlows) (now newhighs) rows ⌝ }
     requires { ⌜ Reaches grid load used rows ⌝ }
-    ensures { λ _. ⌜ Idle (now (newlows .exit)) (now (newhighs .exit)) rows ⌝ }
+    ensures { λ _. ⌜ EmptyFrom (now (newlows .exit)) (now (newhighs .exit)) rows ⌝ }
     ensures { λ r. ⌜ (asked ≡ true → r ≡ countRows (grid .rows) (grid .width) (held (now (work .exit)) (now (newlows .exit)) (now (newhighs .exit)) next (grid .width))) ⌝ }
     ensures { λ _. ⌜ LayerMade (now (work .entry)) (now (work .exit)) (now (lows .entry)) (now (highs .entry)) (now (newlows .exit)) (now (newhighs .exit)) grid cur next load (grid .rows) ⌝ }
 {

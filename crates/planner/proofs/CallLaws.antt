@@ -15,8 +15,10 @@ use Rattle.model.specs.Book.{Problem, readBook}
 use Rattle.model.specs.Choice.{Choice}
 use Rattle.model.specs.Grid.{plan}
 use Rattle.model.specs.Trials.{cells, neededWords, trials, WordsKept}
-use Rattle.model.specs.Sheet.{Sheet, sheetOf, sheetLength}
-use Rattle.model.specs.Calls.{answerOf, bufferAfter, sizeRules, fitting, fittingBook, choiceOr, planSheet, plannerResult, freeFor, freeWords}
+use Rattle.model.specs.Sheet.{sheetOf, sheetLength}
+use Rattle.model.specs.Calls.{sizeRules, fitting, fittingBook, choiceOr, planSheet, plannerResult, freeFor, freeWords}
+use Rattle.model.specs.Answers.{Output, refusalAnswer, Writes}
+use Rattle.model.proofs.ReadingLaws.{refused-writes}
 use Rattle.model.proofs.RefusalLaws.{first-here, first-next, first-last}
 use Rattle.planner.specs.Planner.{fittedPlan}
 
@@ -34,17 +36,17 @@ unfolding freeWords fittingBook
 free-is book words room = refl
 
 module _ (words room : ℕ) (b : Problem) where
-  pub fit-oversize : 1_048_576 < cells b → fitting words room b ≡ refused TooManyCells 0
+  pub fit-many : 1_048_576 < cells b → fitting words room b ≡ refused TooManyCells 0
   unfolding sizeRules
-  fit-oversize h = ap (λ f. checked 0 f (done b)) (first-here TooManyCells _ (ltb 1_048_576 (cells b)) (lt-ltb _ _ h))
+  fit-many h = ap (λ f. checked 0 f (done b)) (first-here TooManyCells _ (ltb 1_048_576 (cells b)) (lt-ltb _ _ h))
 
   past-cells : cells b ≤ 1_048_576 → first (sizeRules b words room) ≡ first (drop 1 (sizeRules b words room))
   unfolding sizeRules
   past-cells h = first-next TooManyCells _ (ltb 1_048_576 (cells b)) (le-ltb _ _ h)
 
-  pub fit-cramped : cells b ≤ 1_048_576 → words < neededWords b → fitting words room b ≡ refused WorkTooSmall 0
+  pub fit-small : cells b ≤ 1_048_576 → words < neededWords b → fitting words room b ≡ refused WorkTooSmall 0
   unfolding sizeRules
-  fit-cramped h k = ap (λ f. checked 0 f (done b)) (past-cells h ∙ first-here WorkTooSmall _ (ltb words (neededWords b)) (lt-ltb _ _ k))
+  fit-small h k = ap (λ f. checked 0 f (done b)) (past-cells h ∙ first-here WorkTooSmall _ (ltb words (neededWords b)) (lt-ltb _ _ k))
 
   past-words : cells b ≤ 1_048_576 → neededWords b ≤ words → first (sizeRules b words room) ≡ first (drop 2 (sizeRules b words room))
   unfolding sizeRules
@@ -59,12 +61,12 @@ module _ (words room : ℕ) (b : Problem) where
   fit-done h k l = ap (λ f. checked 0 f (done b)) (past-words h k ∙ first-last BufferTooSmall (ltb room (sheetLength b)) (le-ltb _ _ l))
 
 module _ (b : Problem) where
-  abbrev due : Result Sheet
+  abbrev due : Result Output
   due = done (sheetOf b (choiceOr (plan b)) (trials b))
 
-  pub plan-spent : b .budget < trials b → planSheet b ≡ refused BudgetExceeded 0
+  pub plan-over : b .budget < trials b → planSheet b ≡ refused BudgetExceeded 0
   unfolding planSheet
-  plan-spent h = ap (λ f. checked 0 f due) (first-here BudgetExceeded [] (ltb (b .budget) (trials b)) (lt-ltb _ _ h))
+  plan-over h = ap (λ f. checked 0 f due) (first-here BudgetExceeded [] (ltb (b .budget) (trials b)) (lt-ltb _ _ h))
 
   pub plan-within : (c : Choice) (t : ℕ) → trials b ≤ b .budget → plan b ≡ some c → t ≡ trials b → done (sheetOf b c t) ≡ planSheet b
   unfolding planSheet
@@ -73,11 +75,8 @@ module _ (b : Problem) where
       ∙ sym (ap (λ f. checked 0 f due) (first-last BudgetExceeded (ltb (b .budget) (trials b)) (le-ltb _ _ h)))
 
 -- a refusal of the sizes: the answer, the buffer as before, and no word changed
-pub size-refused : (words : List ℕ) (before : List ℕ) (b : Problem) (r : Refusal) (a : Answer) → a ≡ answerOf (refused r 0)
+pub size-refused : (words : List ℕ) (before : List ℕ) (b : Problem) (r : Refusal) (a : Answer) → a ≡ refusalAnswer r 0
     → fitting (length words) (length before) b ≡ refused r 0
-    → (a ≡ answerOf (fittedPlan (length words) (length before) b))
-    × ((before ≡ bufferAfter (fittedPlan (length words) (length before) b) before)
-    × WordsKept (freeFor (fitting (length words) (length before) b)) words words)
+    → Writes (fittedPlan (length words) (length before) b) before before a × WordsKept (freeFor (fitting (length words) (length before) b)) words words
 size-refused words before b r a e q =
-    let p : refused r 0 ≡ fittedPlan (length words) (length before) b = ap (λ x. andThen x planSheet) (sym q) in
-    (e ∙ ap answerOf p, (ap (λ x. bufferAfter x before) p, record { same-length = refl; kept = refl }))
+    (refused-writes _ r 0 before a e (ap (λ x. andThen x planSheet) q), record { same-length = refl; kept = refl })

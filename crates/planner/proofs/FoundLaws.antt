@@ -14,7 +14,7 @@ use Rattle.model.specs.Sheet.{sheetOf}
 use Rattle.model.specs.Calls.{planSheet}
 use Rattle.model.specs.Values.{Held, problemOf, Picked, choiceOf}
 use Rattle.model.proofs.PlanLaws.{plan-is}
-use Rattle.model.proofs.ReaderLaws.{plan-some}
+use Rattle.model.proofs.ValidLaws.{plan-some}
 use Rattle.model.proofs.HeldLaws.{held-valid, held-count}
 use Rattle.planner.specs.declared.Search.{Search}
 use Rattle.planner.specs.Planner.{Found}

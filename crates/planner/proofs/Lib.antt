@@ -3,4 +3,3 @@ pub mod PickLaws
 pub mod CallLaws
 pub mod SearchLaws
 pub mod FoundLaws
-pub mod PrintLaws

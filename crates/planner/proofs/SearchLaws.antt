@@ -81,12 +81,12 @@ module _ (v : Book) (held : Held v) (lay : Layout) (is : LayoutIs (problemOf v) 
       record { same-length = p .same-length; kept = subst (λ x. drop (4 * x) ws′ ≡ drop (4 * x) ws) (is .cells-are) e }
 
   -- over the budget
-  pub found-spent : (ws lows highs : List ℕ) (cur ts : ℕ) → Searched ws lows highs (lay .grid) (lay .origin) (v .count) (lay .moves) model (v .budget) cur ts → v .budget < ts
+  pub found-over : (ws lows highs : List ℕ) (cur ts : ℕ) → Searched ws lows highs (lay .grid) (lay .origin) (v .count) (lay .moves) model (v .budget) cur ts → v .budget < ts
       → (code : ℕ) → Found (problemOf v) (record { within = false; trials = ts; code = code })
   unfolding problemOf
-  found-spent ws lows highs cur ts s h code =
+  found-over ws lows highs cur ts s h code =
       record {
-        spent = λ e. subst (λ x. v .budget < x) trials-are (s .spent h);
+        over = λ e. subst (λ x. v .budget < x) trials-are (s .over h);
         enough = λ e. absurd (false≢true e);
         counted = λ e. absurd (false≢true e);
         coded = λ e. absurd (false≢true e);
@@ -115,7 +115,7 @@ module _ (v : Book) (held : Held v) (lay : Layout) (is : LayoutIs (problemOf v) 
         let t : ts ≡ trials (problemOf v) = w .0 ∙ trials-are in
         let k = scan-finds model ws lows highs cur r (laidout .ratio) slots-in small (w .1) found in
         record {
-          spent = λ e. absurd (false≢true (sym e));
+          over = λ e. absurd (false≢true (sym e));
           enough = λ e. subst (λ x. x ≤ v .budget) t h;
           counted = λ e. t;
           coded = λ e c p. coded-as r c (k ∙ ap₂ (λ (ss : List Slot) (ls : List Settings). key? (bestAdmitted ss ls)) (laidout .slots-are) (laidout .loads-are) ∙ ap key? p);

@@ -1,13 +1,9 @@
-// The planner: the sheet of the plan, or the first refusal of 1 to 12; and what the program prints.
-mod program;
-
+// The planner: the sheet of the plan, or the first refusal of 1 to 12.
 use layout::Layout;
 use layout::Slots;
 use model::Answer;
 use model::Book;
 use model::Refusal;
-pub use program::Printed;
-pub use program::output;
 ghost use mathlib.Core.Path.{_≡_};
 ghost use Prim.Native.Nat.{_≤_};
 ghost use lib.ListN.{length, take};
@@ -15,10 +11,12 @@ ghost use Rattle.model.specs.Grid.{slotsOf};
 ghost use Rattle.model.specs.Trials.{neededWords, WordsKept};
 ghost use Rattle.layout.specs.Layout.{LayoutIs};
 ghost use Rattle.model.specs.Sheet.{sheetLength};
-ghost use Rattle.model.specs.Calls.{answerOf, bufferAfter, planSheet, plannerResult, fitting, freeFor, freeWords};
+ghost use Rattle.model.specs.Calls.{planSheet, plannerResult, fitting, freeFor, freeWords};
 ghost use Rattle.model.specs.Demand.{Demand3};
 ghost use Rattle.model.specs.Values.{Held, problemOf};
 ghost use Rattle.model.specs.Choice.{decode};
+ghost use Rattle.model.specs.Answers.{Writes};
+ghost use Rattle.model.specs.Bounds.{mostLoads};
 ghost use Rattle.search.specs.Search.{SlotsIn};
 ghost use Rattle.planner.specs.Planner.{Found, fittedPlan};
 
@@ -30,11 +28,11 @@ pub struct Search {
 }
 
 // c of each load, from the code of a choice: its digits to the base 4, the lowest first.
-fn picks_of(code: u64, count: usize) -> [usize; 24]
-    requires { ⌜ count ≤ 24 ⌝ }
+fn picks_of(code: u64, count: usize) -> [usize; Book::LOADS]
+    requires { ⌜ count ≤ mostLoads ⌝ }
     ensures { λ r. ⌜ take count r ≡ decode count code ⌝ }
 {
-    let mut picks = [0usize; 24];
+    let mut picks = [0usize; Book::LOADS];
     let mut rest = code;
     let mut k: usize = 0;
     while k < count {
@@ -97,8 +95,7 @@ fn plan_for(book: Book, slots: Slots, layout: Layout, work: &mut [u64], sheet: &
     requires { ⌜ LayoutIs (problemOf book) layout ⌝ }
     requires { ⌜ neededWords (problemOf book) ≤ length (now work) ⌝ }
     requires { ⌜ sheetLength (problemOf book) ≤ length (now sheet) ⌝ }
-    ensures answer { λ r. ⌜ r ≡ answerOf (planSheet (problemOf book)) ⌝ }
-    ensures bytes { λ _. ⌜ now (sheet .exit) ≡ bufferAfter (planSheet (problemOf book)) (now (sheet .entry)) ⌝ }
+    ensures result { λ r. ⌜ Writes (planSheet (problemOf book)) (now (sheet .entry)) (now (sheet .exit)) r ⌝ }
     ensures words { λ _. ⌜ WordsKept (neededWords (problemOf book)) (now (work .entry)) (now (work .exit)) ⌝ }
 {
     let found = search_for(book, slots, layout, work);
@@ -112,13 +109,12 @@ fn plan_for(book: Book, slots: Slots, layout: Layout, work: &mut [u64], sheet: &
 // The planner for a book that was read: refusals 9 to 12, or the sheet.
 fn plan_book(book: Book, work: &mut [u64], sheet: &mut [u8]) -> Answer
     requires { ⌜ Held book ⌝ }
-    ensures answer { λ r. ⌜ r ≡ answerOf (fittedPlan (length (now (work .entry))) (length (now (sheet .entry))) (problemOf book)) ⌝ }
-    ensures bytes { λ _. ⌜ now (sheet .exit) ≡ bufferAfter (fittedPlan (length (now (work .entry))) (length (now (sheet .entry))) (problemOf book)) (now (sheet .entry)) ⌝ }
+    ensures result { λ r. ⌜ Writes (fittedPlan (length (now (work .entry))) (length (now (sheet .entry))) (problemOf book)) (now (sheet .entry)) (now (sheet .exit)) r ⌝ }
     ensures words { λ _. ⌜ WordsKept (freeFor (fitting (length (now (work .entry))) (length (now (sheet .entry))) (problemOf book))) (now (work .entry)) (now (work .exit)) ⌝ }
 {
     let slots = layout::slots_of(book);
     let total = layout::cells_of(book, slots);
-    if 1048576 < total {
+    if Book::CELLS < total {
         return Answer::refusal(Refusal::TooManyCells, 0);
     }
     if work.len() < 4 * total {
@@ -133,8 +129,7 @@ fn plan_book(book: Book, work: &mut [u64], sheet: &mut [u8]) -> Answer
 
 // The planner: the sheet of the plan, or the first refusal of 1 to 12.
 pub fn plan(book: &[u8], work: &mut [u64], sheet: &mut [u8]) -> Answer
-    ensures answer { λ r. ⌜ r ≡ answerOf (plannerResult (now (book .entry)) (length (now (work .entry))) (length (now (sheet .entry)))) ⌝ }
-    ensures bytes { λ _. ⌜ now (sheet .exit) ≡ bufferAfter (plannerResult (now (book .entry)) (length (now (work .entry))) (length (now (sheet .entry)))) (now (sheet .entry)) ⌝ }
+    ensures result { λ r. ⌜ Writes (plannerResult (now (book .entry)) (length (now (work .entry))) (length (now (sheet .entry)))) (now (sheet .entry)) (now (sheet .exit)) r ⌝ }
     ensures words { λ _. ⌜ WordsKept (freeWords (now (book .entry)) (length (now (work .entry))) (length (now (sheet .entry)))) (now (work .entry)) (now (work .exit)) ⌝ }
     ensures demand { λ r. ⌜ (r .number ≡ 0 → Demand3 (now (book .entry)) (now (sheet .exit))) ⌝ }
 {

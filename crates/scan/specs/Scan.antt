@@ -10,6 +10,7 @@ use Rattle.model.specs.Grid.{Slot}
 use Rattle.model.specs.Cells.{Key, join, joinUpto, admitsAll}
 use Rattle.model.specs.Valid.{SlotsFor}
 use Rattle.model.specs.Index.{gridFrom}
+use Rattle.model.specs.Bounds.{mostSlots, mostLoads}
 use Rattle.table.specs.declared.Cell.{Cell}
 use Rattle.table.specs.Table.{keyOf}
 use Rattle.pass.specs.declared.Grid.{Grid}
@@ -24,7 +25,7 @@ pub record PairFits (a raised step top count limit : ℕ) : Type 0 where
   pub reactive : (raised + (top + count)) * step ≤ 3342285
   pub some-step : 0 < step
   pub step-fits : step ≤ 65535
-  pub count-fits : count ≤ 24
+  pub count-fits : count ≤ mostLoads
   pub limit-fits : limit ≤ 65535
 
 abbrev pub SlotSmall : Slot → Type 0
@@ -35,10 +36,10 @@ pub record SlotsHeld (slots count : ℕ) (steps tops widths limits : List ℕ) :
   pub ss : List Slot
   pub ss-are : SlotsIn 0 steps tops widths limits 0 ss
   pub many : length ss ≡ slots
-  pub few : slots ≤ 4
+  pub few : slots ≤ mostSlots
   pub for : SlotsFor count ss
   pub small : Every SlotSmall ss
-  pub count-fits : count ≤ 24
+  pub count-fits : count ≤ mostLoads
 
 -- ---- what the functions find
 

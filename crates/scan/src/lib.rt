@@ -1,4 +1,5 @@
 // The last step of the planner: the best cell of the last layer that every slot admits.
+use model::Book;
 use pass::Grid;
 use table::Cell;
 ghost use mathlib.Core.Path.{_≡_};
@@ -47,10 +48,10 @@ fn admits_cell(
     col: usize,
     slots: usize,
     count: u64,
-    steps: [u64; 4],
-    tops: [usize; 4],
-    widths: [usize; 4],
-    limits: [u64; 4],
+    steps: [u64; Book::SLOTS],
+    tops: [usize; Book::SLOTS],
+    widths: [usize; Book::SLOTS],
+    limits: [u64; Book::SLOTS],
 ) -> bool
     requires { ⌜ SlotsHeld slots count steps tops widths limits ⌝ }
     ensures { λ r. ⌜ ((h : SlotsHeld slots count steps tops widths limits) → r ≡ admitsAll (h .ss) (gridFrom 1 (h .ss) row col)) ⌝ }
@@ -100,10 +101,10 @@ fn better_at(
     col: usize,
     slots: usize,
     count: u64,
-    steps: [u64; 4],
-    tops: [usize; 4],
-    widths: [usize; 4],
-    limits: [u64; 4],
+    steps: [u64; Book::SLOTS],
+    tops: [usize; Book::SLOTS],
+    widths: [usize; Book::SLOTS],
+    limits: [u64; Book::SLOTS],
 ) -> Cell
     requires { ⌜ 2 * x + 1 < length (now work) ⌝ }
     requires { ⌜ SlotsHeld slots count steps tops widths limits ⌝ }
@@ -121,7 +122,7 @@ fn better_at(
 }
 
 // The best so far after a row whose cells start at `at`, and of which the stretch from `low` to `high` is held.
-pub fn scan_row(
+fn scan_row(
     work: &[u64],
     at: usize,
     low: usize,
@@ -130,10 +131,10 @@ pub fn scan_row(
     first: Cell,
     slots: usize,
     count: u64,
-    steps: [u64; 4],
-    tops: [usize; 4],
-    widths: [usize; 4],
-    limits: [u64; 4],
+    steps: [u64; Book::SLOTS],
+    tops: [usize; Book::SLOTS],
+    widths: [usize; Book::SLOTS],
+    limits: [u64; Book::SLOTS],
 ) -> Cell
     requires { ⌜ 2 * (at + high) ≤ length (now work) ⌝ }
     requires { ⌜ SlotsHeld slots count steps tops widths limits ⌝ }
@@ -169,12 +170,12 @@ pub fn scan(
     work: &[u64],
     grid: Grid,
     cur: usize,
-    lows: &[usize; 724],
-    highs: &[usize; 724],
+    lows: &[usize; Grid::ROWS],
+    highs: &[usize; Grid::ROWS],
     count: u64,
-    steps: [u64; 4],
-    widths: [usize; 4],
-    limits: [u64; 4],
+    steps: [u64; Book::SLOTS],
+    widths: [usize; Book::SLOTS],
+    limits: [u64; Book::SLOTS],
 ) -> Cell
     requires { ⌜ GridFits grid ⌝ }
     requires { ⌜ 2 * (cur + grid .cells) ≤ length (now work) ⌝ }

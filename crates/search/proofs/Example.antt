@@ -7,9 +7,9 @@ use native.Mathlib.Omega.{arith}
 use lib.IntN.{pos, negsuc, natAbs}
 use lib.ListN.{getD}
 use Rattle.model.specs.Book.{Power, Setting, Settings, standing}
+use Rattle.model.specs.Choice.{noSetting}
 use Rattle.model.specs.Grid.{Slot}
 use Rattle.model.specs.Valid.{SettingKept}
-use Rattle.model.specs.Choice.{noSetting}
 use Rattle.pass.specs.declared.Grid.{Grid}
 use Rattle.pass.specs.declared.LoadMoves.{LoadMoves}
 use Rattle.pass.specs.declared.SettingMove.{SettingMove}

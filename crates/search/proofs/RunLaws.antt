@@ -16,8 +16,8 @@ use lib.Seq.{getD-set-same, getD-set-other, getD-drop, ext-getD}
 use Rattle.model.specs.Lists.{keepIf, distinct, sameLists}
 use Rattle.model.specs.Grid.{Slot, gridsOf}
 use Rattle.model.specs.Trials.{gridTop, samePair, inRange, reachedCount}
-use Rattle.model.specs.Cells.{Key, cellBest}
 use Rattle.model.specs.Index.{rowIndex, columnIndex, columnCount, indexOf}
+use Rattle.model.specs.Cells.{Key, cellBest}
 use Rattle.model.proofs.IntegerLaws.{split}
 use Rattle.model.proofs.CellLaws.{only}
 use Rattle.model.proofs.IndexLaws.{column-below}
@@ -27,7 +27,7 @@ use Rattle.table.specs.Table.{cellAt, putAt, keyOf, Rows}
 use Rattle.table.proofs.WordLaws.{get-same, get-other, length-put}
 use Rattle.pass.specs.declared.Grid.{Grid}
 use Rattle.pass.specs.declared.LoadMoves.{LoadMoves}
-use Rattle.pass.specs.Pass.{held, StretchesFit, LoadRoom, Idle, countRows, LayerMade}
+use Rattle.pass.specs.Pass.{held, StretchesFit, LoadRoom, EmptyFrom, countRows, LayerMade}
 use Rattle.pass.proofs.SourceLaws.{held-in, held-low, held-high}
 use Rattle.pass.proofs.LayerLaws.{rows-count-le}
 use Rattle.search.specs.Search.{firstCell, movesOf, Modelled, LayerIs, Places, trialsOf, Run, Searched}
@@ -88,7 +88,7 @@ module _ {grid : Grid} {origin n : ℕ} {moves : List LoadMoves} (m : Modelled g
 
   -- row 0 holds the origin alone, and every other row nothing
   module _ (ws ws₀ lows highs : List ℕ) (put : ws ≡ putAt ws₀ origin firstCell) (room : 2 * origin + 1 < length ws₀)
-      (low-first : getD lows 0 0 ≡ origin) (high-first : getD highs 0 0 ≡ origin + 1) (idle : Idle lows highs 1) where
+      (low-first : getD lows 0 0 ≡ origin) (high-first : getD highs 0 0 ≡ origin + 1) (idle : EmptyFrom lows highs 1) where
     low-rest : (row : ℕ) → getD lows (suc row) 0 ≡ 0
     low-rest row = idle .no-low (suc row) (omega arith)
 
@@ -216,8 +216,8 @@ module _ {grid : Grid} {origin n : ℕ} {moves : List LoadMoves} (m : Modelled g
       let e : k + suc j ≡ suc (k + j) = omega arith in
       rw e (omega (arith, trials-grow k j (omega arith), trials-up (k + j) (omega arith)))
 
-  pub run-spent : {k : ℕ} (t budget : ℕ) → k < n → t ≡ trialsOf m (suc k) → budget < t → budget < trialsOf m n
-  run-spent {k} t budget l e h =
+  pub run-over : {k : ℕ} (t budget : ℕ) → k < n → t ≡ trialsOf m (suc k) → budget < t → budget < trialsOf m n
+  run-over {k} t budget l e h =
       let q : suc k + (n - suc k) ≡ n = omega arith in
       let g : trialsOf m (suc k) ≤ trialsOf m n = rw q at (trials-grow (suc k) (n - suc k) (omega arith)) in
       omega arith
@@ -225,13 +225,13 @@ module _ {grid : Grid} {origin n : ℕ} {moves : List LoadMoves} (m : Modelled g
   -- ---- the end
 
   pub stopped : {ws lows highs : List ℕ} {k cur : ℕ} (t budget : ℕ) → k < n → t ≡ trialsOf m (suc k) → budget < t → Searched ws lows highs grid origin n moves m budget cur t
-  stopped t budget l e h = record { within = λ a. absurd (omega arith); spent = λ a. run-spent t budget l e h }
+  stopped t budget l e h = record { within = λ a. absurd (omega arith); over = λ a. run-over t budget l e h }
 
   pub ended : {ws ws₁ lows highs : List ℕ} {k cur reached trials : ℕ} (budget : ℕ) → k ≤ n → n ≤ k → Run ws ws₁ lows highs grid origin n moves m k cur reached trials
       → Searched ws₁ lows highs grid origin n moves m budget cur trials
   ended {ws} {ws₁} {lows} {highs} {k} {cur} {reached} {trials} budget h o run =
       let q : Run ws ws₁ lows highs grid origin n moves m n cur reached trials = subst (λ (j : ℕ). Run ws ws₁ lows highs grid origin n moves m j cur reached trials) (le-antisymm h o) run in
-      record { within = λ a. (q .trials-are, q .layer); spent = λ a. omega (arith, q .trials-are) }
+      record { within = λ a. (q .trials-are, q .layer); over = λ a. omega (arith, q .trials-are) }
 
 -- the stretches of the first layer: a number at row 0, and 0 at every other
 zeros : (k i : ℕ) → _≡_ {A = ℕ} (getD (replicate k 0) i 0) 0
@@ -248,10 +248,10 @@ set-rest v row l = getD-set-other (replicate 724 0) 0 row v 0 (λ e. omega arith
 pub set-long : (v : ℕ) → length (set (replicate 724 0) 0 v) ≡ 724
 set-long v = length-set (replicate 724 0) 0 v ∙ length-replicate {A = ℕ} 724 0
 
-pub idle-zeros : (used : ℕ) → Idle (replicate 724 0) (replicate 724 0) used
+pub idle-zeros : (used : ℕ) → EmptyFrom (replicate 724 0) (replicate 724 0) used
 idle-zeros used = record { no-low = λ row l. zeros 724 row; no-high = λ row l. zeros 724 row }
 
-pub idle-first : (v w : ℕ) → Idle (set (replicate 724 0) 0 v) (set (replicate 724 0) 0 w) 1
+pub idle-first : (v w : ℕ) → EmptyFrom (set (replicate 724 0) 0 v) (set (replicate 724 0) 0 w) 1
 idle-first v w = record { no-low = set-rest v; no-high = set-rest w }
 
 -- the words before the first layer was made

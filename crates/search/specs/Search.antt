@@ -5,13 +5,14 @@ use mathlib.Core.Logic.{_⊎_}
 use mathlib.Core.List.{List, [], _∷_}
 use lib.ListN.{length, getD, take}
 use Rattle.model.specs.Lists.{Every}
+use Rattle.model.specs.Bounds.{mostSlots, mostLoads, mostSettings, mostCells, mostRows}
 use Rattle.model.specs.Book.{Setting, Settings}
+use Rattle.model.specs.Choice.{noSetting}
 use Rattle.model.specs.Grid.{Slot, gridsOf}
 use Rattle.model.specs.Trials.{gridTop, trialsUpto}
-use Rattle.model.specs.Choice.{noSetting}
-use Rattle.model.specs.Cells.{settingGrid, settingGrids, cellBest}
-use Rattle.model.specs.Index.{widthOf, rowIndex, columnIndex, rowCount, columnCount, cellCount, columnUp, columnDown}
 use Rattle.model.specs.Valid.{Ready, SettingBelow}
+use Rattle.model.specs.Index.{widthOf, rowIndex, columnIndex, rowCount, columnCount, cellCount, columnUp, columnDown}
+use Rattle.model.specs.Cells.{settingGrid, settingGrids, cellBest}
 use Rattle.table.specs.declared.Cell.{Cell}
 use Rattle.table.specs.Table.{cellAt}
 use Rattle.pass.specs.declared.Grid.{Grid}
@@ -48,12 +49,12 @@ SlotsIn r steps tops widths limits t (s ∷ slots) =
 -- the grid is that of the slots, at ratio r + 1
 pub record GridIs (r : ℕ) (slots : List Slot) (grid : Grid) : Type 0 where
   pub slots-are : grid .slots ≡ length slots
-  pub slots-fit : length slots ≤ 4
+  pub slots-fit : length slots ≤ mostSlots
   pub tops-are : TopsAre (grid .tops) 0 slots
   pub rows-are : grid .rows ≡ rowCount slots
   pub width-is : grid .width ≡ columnCount (suc r) slots
   pub cells-are : grid .cells ≡ cellCount (suc r) slots
-  pub cells-fit : grid .cells ≤ 1048576
+  pub cells-fit : grid .cells ≤ mostCells
 
 -- `mv` is what the setting v of load k + 1 does
 pub record MoveIs (r : ℕ) (slots : List Slot) (k : ℕ) (v : Setting) (mv : SettingMove) : Type 0 where
@@ -69,7 +70,7 @@ pub record MoveIs (r : ℕ) (slots : List Slot) (k : ℕ) (v : Setting) (mv : Se
 -- `load` is what the settings of load k + 1 do, by ascending number
 pub record LoadIs (r : ℕ) (slots : List Slot) (k : ℕ) (vs : Settings) (load : LoadMoves) : Type 0 where
   pub count-is : load .count ≡ length vs
-  pub count-fits : length vs ≤ 4
+  pub count-fits : length vs ≤ mostSettings
   pub ascending : (m n : ℕ) → m < n → n < length vs → getD vs m noSetting .number < getD vs n noSetting .number
   pub each : (n : ℕ) → n < length vs → MoveIs r slots k (getD vs n noSetting) (moveOf load n)
 
@@ -80,7 +81,7 @@ pub record Modelled (grid : Grid) (origin n : ℕ) (moves : List LoadMoves) : Ty
   pub loads : List Settings
   pub ready : Ready r n slots loads
   pub loads-are : length loads ≡ n
-  pub loads-fit : n ≤ 24
+  pub loads-fit : n ≤ mostLoads
   pub some-load : 0 < n
   pub some-slot : 0 < length slots
   pub small : Every (Every (SettingBelow 65535)) loads
@@ -103,8 +104,8 @@ pub record LayerIs (ws lows highs : List ℕ) (grid : Grid) (origin n : ℕ) (mo
 pub record Places (ws ws′ lows highs : List ℕ) (grid : Grid) (cur : ℕ) : Type 0 where
   pub same-length : length ws′ ≡ length ws
   pub side : (cur ≡ 0) ⊎ (cur ≡ grid .cells)
-  pub low-length : length lows ≡ 724
-  pub high-length : length highs ≡ 724
+  pub low-length : length lows ≡ mostRows
+  pub high-length : length highs ≡ mostRows
   pub low-fits : (row : ℕ) → row < grid .rows → getD lows row 0 ≤ grid .width
   pub high-fits : (row : ℕ) → row < grid .rows → getD highs row 0 ≤ grid .width
   pub beyond : (x : ℕ) → 2 * grid .cells ≤ x → cellAt ws′ x ≡ cellAt ws x
@@ -123,4 +124,4 @@ pub record Run (ws ws′ lows highs : List ℕ) (grid : Grid) (origin n : ℕ) (
 -- what the search of n loads gives: the trials, if they are within the budget, and then the last layer; else that they are not
 pub record Searched (ws lows highs : List ℕ) (grid : Grid) (origin n : ℕ) (moves : List LoadMoves) (m : Modelled grid origin n moves) (budget cur trials : ℕ) : Type 0 where
   pub within : trials ≤ budget → (trials ≡ trialsOf m n) × LayerIs ws lows highs grid origin n moves m n cur
-  pub spent : budget < trials → budget < trialsOf m n
+  pub over : budget < trials → budget < trialsOf m n

@@ -1,12 +1,14 @@
 // The search: the passes of all loads, the layers changing places after each, and the trials counted on the way.
+use model::Book;
 use pass::Grid;
 use pass::LoadMoves;
 use table::Cell;
 ghost use mathlib.Core.Path.{_≡_};
 ghost use Prim.Native.Nat.{_+_, _*_, _<_, _≤_};
 ghost use lib.ListN.{length, drop};
+ghost use Rattle.model.specs.Bounds.{mostSettings, mostCells};
 ghost use Rattle.table.specs.Table.{putAt};
-ghost use Rattle.pass.specs.Pass.{Idle};
+ghost use Rattle.pass.specs.Pass.{EmptyFrom};
 ghost use Rattle.search.specs.Search.{firstCell, Modelled, Places, Run, Searched};
 
 // The first layer: one choice, of no load, at the cell `origin` of row 0.
@@ -19,8 +21,8 @@ fn start(work: &mut [u64], origin: usize)
 
 // The trials of one load: the cells that are reached before it, times its settings.
 fn tries(reached: usize, count: usize) -> usize
-    requires { ⌜ (reached ≤ 1048576) × (count ≤ 4) ⌝ }
-    ensures { λ r. ⌜ (r ≡ reached * count) × (r ≤ 4194304) ⌝ }
+    requires { ⌜ (reached ≤ mostCells) × (count ≤ mostSettings) ⌝ }
+    ensures { λ r. ⌜ (r ≡ reached * count) × (r ≤ mostSettings * mostCells) ⌝ }
 {
     reached * count
 }
@@ -29,25 +31,25 @@ fn tries(reached: usize, count: usize) -> usize
 pub struct Ran {
     pub trials: usize,
     pub cur: usize,
-    pub lows: [usize; 724],
-    pub highs: [usize; 724],
+    pub lows: [usize; Grid::ROWS],
+    pub highs: [usize; Grid::ROWS],
 }
 
 // The passes of the first n loads over a first layer that is made, as long as the trials are within the budget. No trial depends on what
 // the last pass reaches, so it is not counted.
-pub fn run_loads(
+fn run_loads(
     work: &mut [u64],
     grid: Grid,
     origin: usize,
     n: usize,
-    moves: [LoadMoves; 24],
+    moves: [LoadMoves; Book::LOADS],
     budget: usize,
-    first: [usize; 724],
-    last: [usize; 724],
+    first: [usize; Grid::ROWS],
+    last: [usize; Grid::ROWS],
 ) -> Ran
     requires { ⌜ 4 * grid .cells ≤ length (now work) ⌝ }
     requires { ⌜ Modelled grid origin n moves ⌝ }
-    requires { ⌜ Idle first last 1 ⌝ }
+    requires { ⌜ EmptyFrom first last 1 ⌝ }
     requires { ⌜ ((m : Modelled grid origin n moves) → Run (now work) (now work) first last grid origin n moves m 0 0 1 0) ⌝ }
     ensures { λ r. ⌜ Places (now (work .entry)) (now (work .exit)) (r .lows) (r .highs) grid (r .cur) ⌝ }
     ensures { λ r. ⌜ ((m : Modelled grid origin n moves) → Searched (now (work .exit)) (r .lows) (r .highs) grid origin n moves m budget (r .cur) (r .trials)) ⌝ }
@@ -55,8 +57,8 @@ pub fn run_loads(
     let cells = grid.cells;
     let mut lows = first;
     let mut highs = last;
-    let mut newlows: [usize; 724] = [0; 724];
-    let mut newhighs: [usize; 724] = [0; 724];
+    let mut newlows: [usize; Grid::ROWS] = [0; Grid::ROWS];
+    let mut newhighs: [usize; Grid::ROWS] = [0; Grid::ROWS];
     let mut trials: usize = 0;
     let mut reached: usize = 1;
     let mut cur: usize = 0;
@@ -108,7 +110,7 @@ pub fn search(
     grid: Grid,
     origin: usize,
     n: usize,
-    moves: [LoadMoves; 24],
+    moves: [LoadMoves; Book::LOADS],
     budget: usize,
 ) -> Ran
     requires { ⌜ 4 * grid .cells ≤ length (now work) ⌝ }
@@ -117,8 +119,8 @@ pub fn search(
     ensures { λ r. ⌜ Places (now (work .entry)) (now (work .exit)) (r .lows) (r .highs) grid (r .cur) ⌝ }
     ensures { λ r. ⌜ ((m : Modelled grid origin n moves) → Searched (now (work .exit)) (r .lows) (r .highs) grid origin n moves m budget (r .cur) (r .trials)) ⌝ }
 {
-    let mut lows: [usize; 724] = [0; 724];
-    let mut highs: [usize; 724] = [0; 724];
+    let mut lows: [usize; Grid::ROWS] = [0; Grid::ROWS];
+    let mut highs: [usize; Grid::ROWS] = [0; Grid::ROWS];
     lows[0] = origin;
     highs[0] = origin + 1;
     start(work, origin);

@@ -21,7 +21,7 @@ use Rattle.model.proofs.UptoLaws.{upto-last, suc-across}
 use Rattle.model.proofs.FrameLaws.{length-digits}
 use Rattle.model.proofs.IntegerLaws.{split, sub-pos, sub-neg}
 use Rattle.hex.specs.Written.{written}
-use Rattle.hex.proofs.WrittenLaws.{length-written, written-none, written-front, written-then, written-part}
+use Rattle.hex.proofs.WrittenLaws.{length-written, written-part, write-byte, write-on}
 use Rattle.sheet.specs.Lines.{numbersIn, firstBytes, slotBytes, slotsBytes}
 
 -- ---- pieces over the numbers below a bound
@@ -97,14 +97,6 @@ module _ (actives words limits : List ℕ) where
   slots-more n = pieces-last slotAt n
 
 -- ---- writes after each other
-
--- a write at the place where another ended
-pub write-on : (l l′ : List ℕ) (at at′ : ℕ) (xs ys : List ℕ) → l′ ≡ written l at xs → at′ ≡ at + length xs → at′ + length ys ≤ length l
-    → written l′ at′ ys ≡ written l at (xs ++ ys)
-write-on l l′ at at′ xs ys e p h = ap₂ (λ m k. written m k ys) e p ∙ written-then l at xs ys (omega arith)
-
-pub write-byte : (l : List ℕ) (at v : ℕ) → at < length l → set l at v ≡ written l at (v ∷ [])
-write-byte l at v h = ap (λ m. set m at v) (sym (written-none l (at + 1))) ∙ written-front l at v [] h
 
 -- a line: four fields and an LF
 pub write-line : (l l₁ l₂ l₃ l₄ : List ℕ) (at p₂ p₃ p₄ p₅ : ℕ) (a b c d : List ℕ)

@@ -1,18 +1,19 @@
-// The sheet: it is written into a lent buffer (`write` puts its lines there), and read against a book (`read`).
+// The sheet: it is written into a lent buffer (`write` puts its lines there), and read against a book to a choice (`read`).
 use model::Answer;
 use model::Book;
 ghost use mathlib.Core.Path.{_≡_};
 ghost use Prim.Native.Nat.{_≤_};
 ghost use lib.ListN.{length};
 ghost use Rattle.model.specs.Refusals.{done};
+ghost use Rattle.model.specs.Answers.{Writes};
 ghost use Rattle.model.specs.Sheet.{sheetOf, sheetLength};
-ghost use Rattle.model.specs.Calls.{answerOf, bufferAfter};
 ghost use Rattle.model.specs.Values.{Held, Picked, choiceOf, problemOf};
 
-pub mod read;
-pub mod write;
+mod read;
+mod write;
 
-pub use read::read_sheet;
+pub use read::SheetPicks;
+pub use read::choice_on;
 
 // How many bytes a sheet for this book has.
 pub fn sheet_length(book: Book) -> usize
@@ -23,12 +24,11 @@ pub fn sheet_length(book: Book) -> usize
 }
 
 // Writes the sheet of the choice whose numbers are in `picks`.
-pub fn write_sheet(book: Book, picks: [usize; 24], trials: u64, sheet: &mut [u8]) -> Answer
+pub fn write_sheet(book: Book, picks: [usize; Book::LOADS], trials: u64, sheet: &mut [u8]) -> Answer
     requires { ⌜ Held book ⌝ }
     requires { ⌜ Picked (problemOf book) picks ⌝ }
     requires { ⌜ sheetLength (problemOf book) ≤ length (now sheet) ⌝ }
-    ensures answer { λ r. ⌜ r ≡ answerOf (done (sheetOf (problemOf book) (choiceOf (problemOf book) picks) trials)) ⌝ }
-    ensures bytes { λ _. ⌜ now (sheet .exit) ≡ bufferAfter (done (sheetOf (problemOf book) (choiceOf (problemOf book) picks) trials)) (now (sheet .entry)) ⌝ }
+    ensures { λ r. ⌜ Writes (done (sheetOf (problemOf book) (choiceOf (problemOf book) picks) trials)) (now (sheet .entry)) (now (sheet .exit)) r ⌝ }
 {
     let slots = book.slots;
     let count = book.count;
@@ -49,11 +49,5 @@ pub fn write_sheet(book: Book, picks: [usize; 24], trials: u64, sheet: &mut [u8]
         words,
         limits,
     );
-    Answer {
-        number: 0,
-        line: 0,
-        bytes: sheet_length(book) as u64,
-        worth,
-        trials,
-    }
+    Answer::success(sheet_length(book) as u64, worth, trials)
 }

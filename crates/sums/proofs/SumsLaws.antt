@@ -3,203 +3,208 @@
 use mathlib.Core.Path.{_≡_, refl, sym, ap, ap₂, _∙_}
 use mathlib.Core.Logic.{inl, inr}
 use mathlib.Core.List.{List, [], _∷_, map}
-use Prim.Native.Nat.{ℕ, zero, suc, _+_, _-_, _*_, _/_, _%_, _<_, _≤_}
+use Prim.Native.Nat.{ℕ, zero, suc, _+_, _*_, _/_, _%_, _<_, _≤_}
 use native.Mathlib.Nat.{le-of-suc-le-suc}
+use native.Mathlib.Numerals.{add-one}
 use native.Mathlib.Omega.{arith}
 use lib.IntN.{natAbs}
-use lib.ListN.{length, getD, set, length-append, length-set}
+use lib.ListN.{length, getD, set, length-append, length-set, getD-replicate}
 use Rattle.model.specs.Lists.{Mem, Every, upto}
 use Rattle.model.specs.Book.{Power, Setting, Settings, Problem}
 use Rattle.model.specs.Choice.{Choice, IsChoice, plus, powerIn, sumIn, noSetting}
 use Rattle.model.specs.Valid.{Labelled, SettingSmall, ValidBook}
-use Rattle.model.specs.Values.{raised, settingOf, loadValue, raisedBy}
+use Rattle.model.specs.Values.{raisedBy, settingOf, loadValue}
 use Rattle.model.proofs.ListLaws.{every-mem, every-at}
-use Rattle.model.proofs.UptoLaws.{length-upto, getD-upto, upto-is}
-use Rattle.model.proofs.ChoiceLaws.{snoc, sum-last, choice-every}
+use Rattle.model.proofs.UptoLaws.{getD-upto, upto-is}
+use Rattle.model.proofs.ChoiceLaws.{snoc, plus-comm, sum-last, choice-every}
 use Rattle.model.proofs.PlanLaws.{chosen-length}
-use Rattle.model.proofs.QuickLaws.{sum-set}
-use Rattle.model.proofs.RaisedLaws.{raised-one, raised-plus, abs-plus, raised-most}
 use Rattle.model.proofs.HeldLaws.{setting-small, load-active, load-reactive, loads-small}
-use Rattle.sums.specs.Sums.{sumsValue, added, exchanged, SumsSmall, LoadSmall, CanAdd, CanExchange}
-
--- two lists that agree at each place
-pub upto-same : {A : Type 0} (f g : ℕ → A) (n : ℕ) (d : A) → ((s : ℕ) → s < n → f s ≡ g s) → map f (upto n) ≡ map g (upto n)
-upto-same f g n d h =
-    ap (λ m. map f (upto m)) (sym (length-upto g n))
-    ∙ upto-is f (map g (upto n)) d (λ i l. let k : i < n = omega (arith, length-upto g n) in h i k ∙ sym (getD-upto g n i d k))
+use Rattle.model.proofs.QuickLaws.{sum-set}
+use Rattle.sums.specs.Sums.{sumsValue, shiftedIn, shifted, noPowers, added, exchanged, Small, SumsSmall, CanShift, CanAdd, CanExchange}
+use Rattle.model.proofs.RaisedLaws.{raised-one, raised-plus, abs-plus, raised-most}
 
 -- ---- small settings
 
-pub active-sum : (c : Choice) → Every SettingSmall c → (s : ℕ) → sumIn s c .p ≤ 65535 * length c
-active-sum [] h s = omega arith
-active-sum (v ∷ c) h s = omega (arith, active-sum c (h .1) s, h .0 .active s)
+-- a sum of n powers
+record PowerSmall (n : ℕ) (x : Power) : Type 0 where
+  pub active : x .p ≤ 65535 * n
+  pub reactive : natAbs (x .q) ≤ 32768 * n
+
+power-small : (v : Setting) → SettingSmall v → (s : ℕ) → PowerSmall 1 (powerIn s v)
+power-small v h s = omega (arith, h .active s, h .reactive s)
+
+sum-small : (c : Choice) → Every SettingSmall c → (s : ℕ) → PowerSmall (length c) (sumIn s c)
+sum-small [] h s = omega arith
+sum-small (v ∷ c) h s =
+    omega (arith, sum-small c (h .1) s, h .0 .active s, h .0 .reactive s, abs-plus (powerIn s v .q) (sumIn s c .q))
 
 pub reactive-sum : (c : Choice) → Every SettingSmall c → (s : ℕ) → natAbs (sumIn s c .q) ≤ 32768 * length c
-reactive-sum [] h s = omega arith
-reactive-sum (v ∷ c) h s = omega (arith, abs-plus (powerIn s v .q) (sumIn s c .q), reactive-sum c (h .1) s, h .0 .reactive s)
+reactive-sum c h s = sum-small c h s .reactive
 
--- ---- entries
+-- ---- what an array holds for a sum x of n powers: P, or Q + 32,768 n
 
-module _ (c : Choice) (s : ℕ) (four : s < 4) where
-  pub sums-active : getD (sumsValue c .actives) s 0 ≡ sumIn s c .p
-  unfolding sumsValue
-  sums-active = getD-upto (λ i. sumIn i c .p) 4 s 0 four
+record Additive (entry : ℕ → Power → ℕ) : Type 0 where
+  pub add : (n : ℕ) (x y : Power) → PowerSmall n x → PowerSmall 1 y → entry (n + 1) (plus x y) ≡ entry n x + entry 1 y
+  pub most : (n : ℕ) (x : Power) → PowerSmall n x → entry n x ≤ 65536 * n
 
-  pub sums-reactive : getD (sumsValue c .reactives) s 0 ≡ raisedBy (length c) (sumIn s c .q)
-  unfolding sumsValue
-  sums-reactive = getD-upto (λ i. raisedBy (length c) (sumIn i c .q)) 4 s 0 four
+abbrev activeOf : ℕ → Power → ℕ
+activeOf n x = x .p
 
-  module _ (small : Every SettingSmall c) (few : length c ≤ 24) where
-    pub active-most : getD (sumsValue c .actives) s 0 ≤ 24 * 65535
-    active-most = omega (arith, sums-active, active-sum c small s)
+abbrev reactiveOf : ℕ → Power → ℕ
+reactiveOf n x = raisedBy n (x .q)
 
-    pub reactive-most : getD (sumsValue c .reactives) s 0 ≤ 24 * 65536
-    reactive-most =
-        omega (arith, sums-reactive, raised-most (length c) (sumIn s c .q) (reactive-sum c small s))
+active-adds : Additive activeOf
+active-adds = record { add = λ n x y h k. refl; most = λ n x h. omega arith }
 
-pub sums-small : (c : Choice) → Every SettingSmall c → length c ≤ 24 → SumsSmall (sumsValue c)
-sums-small c small few =
+reactive-adds : Additive reactiveOf
+reactive-adds =
     record {
-      active = λ s h. omega (arith, active-most c s h small few);
-      reactive = λ s h. omega (arith, reactive-most c s h small few);
+      add = λ n x y h k. raised-plus n 1 (x .q) (y .q) (h .reactive) (k .reactive);
+      most = λ n x h. raised-most n (x .q) (h .reactive);
     }
 
-raised-setting : (v : Setting) → SettingSmall v → (s : ℕ) → raised (powerIn s v .q) ≤ 65536
-raised-setting v small s =
-    omega (arith, raised-one (powerIn s v .q), raised-most 1 (powerIn s v .q) (omega (arith, small .reactive s)))
+-- the array of a choice's sums
+abbrev entriesOf : (ℕ → Power → ℕ) → Choice → List ℕ
+entriesOf entry c = map (λ s. entry (length c) (sumIn s c)) (upto 4)
 
-pub load-small : (vs : Settings) → Every SettingSmall vs → LoadSmall (loadValue vs)
-load-small vs small = record { active = actives; reactive = reactives }
-  where
-    place : (k : ℕ) → 4 * (k / 4) + k % 4 ≡ k
-    place k = omega arith
+entry-at : (entry : ℕ → Power → ℕ) (c : Choice) (s : ℕ) → s < 4 → getD (entriesOf entry c) s 0 ≡ entry (length c) (sumIn s c)
+entry-at entry c s four = getD-upto (λ i. entry (length c) (sumIn i c)) 4 s 0 four
 
-    actives : (k : ℕ) → k < 16 → getD (loadValue vs .actives) k 0 < 2147483648
-    actives k h =
-        omega (arith, ap (λ i. getD (loadValue vs .actives) i 0) (place k), load-active vs (k / 4) (k % 4) (omega arith) (omega arith), setting-small vs small (k / 4) .active (k % 4))
+module _ {entry : ℕ → Power → ℕ} (adds : Additive entry) (c : Choice) (small : Every SettingSmall c) where
+  entries-small : length c ≤ 24 → Small 4 (entriesOf entry c)
+  entries-small few s h = omega (arith, entry-at entry c s h, adds .most (length c) (sumIn s c) (sum-small c small s))
 
-    reactives : (k : ℕ) → k < 16 → getD (loadValue vs .reactives) k 0 < 2147483648
-    reactives k h =
-        omega (arith, ap (λ i. getD (loadValue vs .reactives) i 0) (place k), load-reactive vs (k / 4) (k % 4) (omega arith) (omega arith), raised-setting (settingOf vs (k / 4)) (setting-small vs small (k / 4)) (k % 4))
+  entry-more : (v : Setting) → SettingSmall v → (s : ℕ)
+      → entry (length c + 1) (plus (sumIn s c) (powerIn s v)) ≡ entry (length c) (sumIn s c) + entry 1 (powerIn s v)
+  entry-more v w s = adds .add (length c) (sumIn s c) (powerIn s v) (sum-small c small s) (power-small v w s)
 
--- ---- one setting more
+  entry-first : (v : Setting) → SettingSmall v → (s : ℕ)
+      → entry (suc (length c)) (plus (powerIn s v) (sumIn s c)) ≡ entry (length c) (sumIn s c) + entry 1 (powerIn s v)
+  entry-first v w s = ap₂ entry (sym (add-one (length c))) (plus-comm (powerIn s v) (sumIn s c)) ∙ entry-more v w s
 
-raised-more : (c : Choice) (v : Setting) (s : ℕ) → Every SettingSmall c → SettingSmall v
-    → raisedBy (length c + 1) (plus (sumIn s c) (powerIn s v) .q) ≡ raisedBy (length c) (sumIn s c .q) + raised (powerIn s v .q)
-raised-more c v s small w =
-    raised-plus (length c) 1 (sumIn s c .q) (powerIn s v .q) (reactive-sum c small s) (omega (arith, w .reactive s))
-    ∙ ap (λ x. raisedBy (length c) (sumIn s c .q) + x) (sym (raised-one (powerIn s v .q)))
+-- no setting's entry is more than the sum's
+entry-part : {entry : ℕ → Power → ℕ} → Additive entry → (c : Choice) → Every SettingSmall c → (k : ℕ) (d : Setting) (s : ℕ) → k < length c
+    → entry 1 (powerIn s (getD c k d)) ≤ entry (length c) (sumIn s c)
+entry-part adds [] small k d s h = absurd (omega arith)
+entry-part adds (v ∷ c) small zero d s h = omega (arith, entry-first adds c (small .1) v (small .0) s)
+entry-part adds (v ∷ c) small (suc k) d s h =
+    omega (arith, entry-first adds c (small .1) v (small .0) s, entry-part adds c (small .1) k d s (le-of-suc-le-suc h))
 
-pub added-last : (c : Choice) (vs : Settings) (j : ℕ) → Every SettingSmall c → Every SettingSmall vs → j < 4
-    → added (sumsValue c) (loadValue vs) j ≡ sumsValue (snoc (settingOf vs j) c)
-unfolding added sumsValue
-added-last c vs j small sized place =
-    let v = settingOf vs j in
-    let actives-are : added (sumsValue c) (loadValue vs) j .actives ≡ sumsValue (snoc v c) .actives
-    = upto-same (λ s. getD (sumsValue c .actives) s 0 + getD (loadValue vs .actives) (4 * j + s) 0) (λ s. sumIn s (snoc v c) .p) 4 0 (λ s h.
-    ap₂ (λ x y. x + y) (sums-active c s h) (load-active vs j s place h) ∙ sym (ap (λ (x : Power). x .p) (sum-last s c v))) in
-    let reactives-are : added (sumsValue c) (loadValue vs) j .reactives ≡ sumsValue (snoc v c) .reactives
-    = upto-same (λ s. getD (sumsValue c .reactives) s 0 + getD (loadValue vs .reactives) (4 * j + s) 0) (λ s. raisedBy (length (snoc v c)) (sumIn s (snoc v c) .q)) 4 0 (λ s h.
-    ap₂ (λ x y. x + y) (sums-reactive c s h) (load-reactive vs j s place h)
-    ∙ sym (raised-more c v s small (setting-small vs sized j))
-    ∙ sym (ap₂ (λ n (x : Power). raisedBy n (x .q)) (length-append c (v ∷ [])) (sum-last s c v))) in
-    λ i. record { actives = actives-are i; reactives = reactives-are i }
+-- an array of a load's powers
+record PowersOf (entry : ℕ → Power → ℕ) (vs : Settings) (powers : List ℕ) : Type 0 where
+  pub adds : Additive entry
+  pub small : Every SettingSmall vs
+  pub at : (j s : ℕ) → j < 4 → s < 4 → getD powers (4 * j + s) 0 ≡ entry 1 (powerIn s (settingOf vs j))
 
-pub can-add : (c : Choice) (vs : Settings) (j : ℕ) → Every SettingSmall c → length c ≤ 24 → Every SettingSmall vs → j < 4
-    → CanAdd (sumsValue c) (loadValue vs) j
-can-add c vs j small few sized place = record { sums = sums-small c small few; load = load-small vs sized; place = place }
-
--- ---- one setting in place of another
+-- ---- the array shifted
 
 pub every-set : {A : Type 0} (P : A → Type 0) (xs : List A) (k : ℕ) (x : A) → Every P xs → P x → Every P (set xs k x)
 every-set P [] k x h p = tt
 every-set P (y ∷ ys) zero x h p = (p, h .1)
 every-set P (y ∷ ys) (suc k) x h p = (h .0, every-set P ys k x (h .1) p)
 
--- no setting's P or raised Q is more than the sum's
-active-part : (c : Choice) (k : ℕ) (d : Setting) (s : ℕ) → k < length c → powerIn s (getD c k d) .p ≤ sumIn s c .p
-active-part [] k d s h = absurd (omega arith)
-active-part (v ∷ c) zero d s h = omega arith
-active-part (v ∷ c) (suc k) d s h = omega (arith, active-part c k d s (le-of-suc-le-suc h))
+none-at : (s : ℕ) → s < 4 → getD noPowers s 0 ≡ 0
+none-at s h = getD-replicate 16 s 0 0 (omega arith)
 
-raised-first : (v : Setting) (c : Choice) (s : ℕ) → SettingSmall v → Every SettingSmall c
-    → raisedBy (suc (length c)) (plus (powerIn s v) (sumIn s c) .q) ≡ raised (powerIn s v .q) + raisedBy (length c) (sumIn s c .q)
-raised-first v c s w small =
-    let n : suc (length c) ≡ 1 + length c = omega arith in
-    ap (λ m. raisedBy m (plus (powerIn s v) (sumIn s c) .q)) n
-    ∙ raised-plus 1 (length c) (powerIn s v .q) (sumIn s c .q) (omega (arith, w .reactive s)) (reactive-sum c small s)
-    ∙ ap (λ x. x + raisedBy (length c) (sumIn s c .q)) (sym (raised-one (powerIn s v .q)))
+module _ {entry : ℕ → Power → ℕ} {vs : Settings} {powers : List ℕ} (l : PowersOf entry vs powers) (c : Choice) (small : Every SettingSmall c) where
+  powers-small : Small 16 powers
+  powers-small k h =
+      let j = k / 4 in
+      let s = k % 4 in
+      let place : 4 * j + s ≡ k = omega arith in
+      let most = l .adds .most 1 (powerIn s (settingOf vs j)) (power-small (settingOf vs j) (setting-small vs (l .small) j) s) in
+      omega (arith, ap (λ i. getD powers i 0) place, l .at j s (omega arith) (omega arith))
 
-reactive-part : (c : Choice) (k : ℕ) (d : Setting) (s : ℕ) → Every SettingSmall c → k < length c
-    → raised (powerIn s (getD c k d) .q) ≤ raisedBy (length c) (sumIn s c .q)
-reactive-part [] k d s small h = absurd (omega arith)
-reactive-part (v ∷ c) zero d s small h = omega (arith, raised-first v c s (small .0) (small .1))
-reactive-part (v ∷ c) (suc k) d s small h =
-    omega (arith, raised-first v c s (small .0) (small .1), reactive-part c k d s (small .1) (le-of-suc-le-suc h))
+  can-shift : (j : ℕ) (less : List ℕ) → length c ≤ 24 → j < 4 → ((s : ℕ) → s < 4 → getD less s 0 ≤ getD (entriesOf entry c) s 0)
+      → CanShift (entriesOf entry c) powers j less
+  can-shift j less few place counted =
+      record { sums-small = entries-small (l .adds) c small few; powers-small = powers-small; place = place; counted = counted }
+
+  -- the array of c′, whose entries and `less` are as much as those of c and setting j
+  shifted-to : (j : ℕ) (less : List ℕ) (c′ : Choice) → j < 4
+      → ((s : ℕ) → s < 4 → entry (length c′) (sumIn s c′) + getD less s 0 ≡ entry (length c + 1) (plus (sumIn s c) (powerIn s (settingOf vs j))))
+      → shifted (entriesOf entry c) powers j less ≡ entriesOf entry c′
+  unfolding shifted
+  shifted-to j less c′ place same =
+      upto-is (shiftedIn (entriesOf entry c) powers j less) (entriesOf entry c′) 0
+      (λ s h. omega (arith, entry-at entry c s h, entry-at entry c′ s h, l .at j s place h, same s h, entry-more (l .adds) c small (settingOf vs j) (setting-small vs (l .small) j) s))
+
+  can-shift-more : (j : ℕ) → length c ≤ 24 → j < 4 → CanShift (entriesOf entry c) powers j noPowers
+  can-shift-more j few place = can-shift j noPowers few place (λ s h. omega (arith, none-at s h))
+
+  shifted-more : (j : ℕ) → j < 4 → shifted (entriesOf entry c) powers j noPowers ≡ entriesOf entry (snoc (settingOf vs j) c)
+  shifted-more j place =
+      let v = settingOf vs j in
+      shifted-to j noPowers (snoc v c) place
+      (λ s h. omega (arith, none-at s h, ap₂ entry (length-append c (v ∷ [])) (sum-last s c v)))
+
+  module _ (k : ℕ) (inside : k < length c) (standing : getD c k noSetting ≡ settingOf vs 0) where
+    -- the load's entries at setting 0
+    first-at : (s : ℕ) → s < 4 → getD powers s 0 ≡ entry 1 (powerIn s (getD c k noSetting))
+    first-at s h =
+        let e : s ≡ 4 * 0 + s = omega arith in
+        ap (λ i. getD powers i 0) e ∙ l .at 0 s (omega arith) h ∙ ap (λ v. entry 1 (powerIn s v)) (sym standing)
+
+    can-shift-set : length c ≤ 24 → CanShift (entriesOf entry c) powers 1 powers
+    can-shift-set few =
+        can-shift 1 powers few (omega arith)
+        (λ s h. omega (arith, first-at s h, entry-at entry c s h, entry-part (l .adds) c small k noSetting s inside))
+
+    shifted-set : shifted (entriesOf entry c) powers 1 powers ≡ entriesOf entry (set c k (settingOf vs 1))
+    shifted-set =
+        let v = settingOf vs 1 in
+        let u = getD c k noSetting in
+        let w = every-set SettingSmall c k v small (setting-small vs (l .small) 1) in
+        shifted-to 1 powers (set c k v) (omega arith)
+        (λ s h.
+        let same : entry (length (set c k v) + 1) (plus (sumIn s (set c k v)) (powerIn s u)) ≡ entry (length c + 1) (plus (sumIn s c) (powerIn s v))
+        = ap₂ (λ n x. entry (n + 1) x) (length-set c k v) (sum-set s c k v noSetting inside) in
+        omega (arith, same, first-at s h, entry-more (l .adds) (set c k v) w u (every-at SettingSmall c noSetting small k inside) s))
+
+-- ---- the values that hold the sums and a load
+
+module _ (c : Choice) (s : ℕ) (four : s < 4) where
+  pub sums-active : getD (sumsValue c .actives) s 0 ≡ sumIn s c .p
+  unfolding sumsValue
+  sums-active = entry-at activeOf c s four
+
+  pub sums-reactive : getD (sumsValue c .reactives) s 0 ≡ raisedBy (length c) (sumIn s c .q)
+  unfolding sumsValue
+  sums-reactive = entry-at reactiveOf c s four
+
+actives-of : (vs : Settings) → Every SettingSmall vs → PowersOf activeOf vs (loadValue vs .actives)
+actives-of vs sized = record { adds = active-adds; small = sized; at = load-active vs }
+
+reactives-of : (vs : Settings) → Every SettingSmall vs → PowersOf reactiveOf vs (loadValue vs .reactives)
+reactives-of vs sized =
+    record { adds = reactive-adds; small = sized; at = λ j s p h. load-reactive vs j s p h ∙ raised-one (powerIn s (settingOf vs j) .q) }
+
+pub sums-small : (c : Choice) → Every SettingSmall c → length c ≤ 24 → SumsSmall (sumsValue c)
+unfolding sumsValue
+sums-small c small few = record { active = entries-small active-adds c small few; reactive = entries-small reactive-adds c small few }
+
+pub can-add : (c : Choice) (vs : Settings) (j : ℕ) → Every SettingSmall c → length c ≤ 24 → Every SettingSmall vs → j < 4
+    → CanAdd (sumsValue c) (loadValue vs) j
+unfolding sumsValue
+can-add c vs j small few sized place =
+    record { active = can-shift-more (actives-of vs sized) c small j few place; reactive = can-shift-more (reactives-of vs sized) c small j few place }
+
+pub added-last : (c : Choice) (vs : Settings) (j : ℕ) → Every SettingSmall c → Every SettingSmall vs → j < 4
+    → added (sumsValue c) (loadValue vs) j ≡ sumsValue (snoc (settingOf vs j) c)
+unfolding added sumsValue
+added-last c vs j small sized place =
+    cc (shifted-more (actives-of vs sized) c small j place, shifted-more (reactives-of vs sized) c small j place)
 
 module _ (c : Choice) (vs : Settings) (k : ℕ) (small : Every SettingSmall c) (sized : Every SettingSmall vs) (inside : k < length c)
     (standing : getD c k noSetting ≡ settingOf vs 0) where
-  -- the load's entries at setting 0
-  first-active : (s : ℕ) → s < 4 → getD (loadValue vs .actives) s 0 ≡ powerIn s (getD c k noSetting) .p
-  first-active s h =
-      let e : s ≡ 4 * 0 + s = omega arith in
-      ap (λ i. getD (loadValue vs .actives) i 0) e
-      ∙ load-active vs 0 s (omega arith) h
-      ∙ ap (λ v. powerIn s v .p) (sym standing)
-
-  first-reactive : (s : ℕ) → s < 4 → getD (loadValue vs .reactives) s 0 ≡ raised (powerIn s (getD c k noSetting) .q)
-  first-reactive s h =
-      let e : s ≡ 4 * 0 + s = omega arith in
-      ap (λ i. getD (loadValue vs .reactives) i 0) e
-      ∙ load-reactive vs 0 s (omega arith) h
-      ∙ ap (λ v. raised (powerIn s v .q)) (sym standing)
-
   pub can-exchange : length c ≤ 24 → CanExchange (sumsValue c) (loadValue vs)
+  unfolding sumsValue
   can-exchange few =
-      record {
-        sums = sums-small c small few;
-        load = load-small vs sized;
-        active = λ s h. omega (arith, first-active s h, sums-active c s h, active-part c k noSetting s inside);
-        reactive = λ s h. omega (arith, first-reactive s h, sums-reactive c s h, reactive-part c k noSetting s small inside);
-      }
-
-  active-set : (s : ℕ) → s < 4
-      → getD (sumsValue c .actives) s 0 + getD (loadValue vs .actives) (4 + s) 0 - getD (loadValue vs .actives) s 0
-      ≡ sumIn s (set c k (settingOf vs 1)) .p
-  active-set s h =
-      omega (arith, first-active s h, sums-active c s h, load-active vs 1 s (omega arith) h, ap (λ (x : Power). x .p) (sum-set s c k (settingOf vs 1) noSetting inside))
-
-  reactive-set : (s : ℕ) → s < 4
-      → getD (sumsValue c .reactives) s 0 + getD (loadValue vs .reactives) (4 + s) 0 - getD (loadValue vs .reactives) s 0
-      ≡ raisedBy (length (set c k (settingOf vs 1))) (sumIn s (set c k (settingOf vs 1)) .q)
-  reactive-set s h =
-      let v = settingOf vs 1 in
-      let u = getD c k noSetting in
-      let w = setting-small vs sized 1 in
-      let same : raisedBy (length c + 1) (plus (sumIn s (set c k v)) (powerIn s u) .q) ≡ raisedBy (length c + 1) (plus (sumIn s c) (powerIn s v) .q)
-      = ap (λ (x : Power). raisedBy (length c + 1) (x .q)) (sum-set s c k v noSetting inside) in
-      let before : raisedBy (length (set c k v) + 1) (plus (sumIn s (set c k v)) (powerIn s u) .q) ≡ raisedBy (length (set c k v)) (sumIn s (set c k v) .q) + raised (powerIn s u .q)
-      = raised-more (set c k v) u s (every-set SettingSmall c k v small w) (every-at SettingSmall c noSetting small k inside) in
-      let length-is : length (set c k v) ≡ length c = length-set c k v in
-      omega (
-        arith,
-        first-reactive s h,
-        sums-reactive c s h,
-        load-reactive vs 1 s (omega arith) h,
-        same,
-        before,
-        raised-more c v s small w,
-        ap (λ n. raisedBy (n + 1) (plus (sumIn s (set c k v)) (powerIn s u) .q)) length-is,
-      )
+      record { active = can-shift-set (actives-of vs sized) c small k inside standing few; reactive = can-shift-set (reactives-of vs sized) c small k inside standing few }
 
   pub exchanged-set : exchanged (sumsValue c) (loadValue vs) ≡ sumsValue (set c k (settingOf vs 1))
   unfolding exchanged sumsValue
-  exchanged-set =
-      let actives-are : exchanged (sumsValue c) (loadValue vs) .actives ≡ sumsValue (set c k (settingOf vs 1)) .actives
-      = upto-same (λ s. getD (sumsValue c .actives) s 0 + getD (loadValue vs .actives) (4 + s) 0 - getD (loadValue vs .actives) s 0) (λ s. sumIn s (set c k (settingOf vs 1)) .p) 4 0 active-set in
-      let reactives-are : exchanged (sumsValue c) (loadValue vs) .reactives ≡ sumsValue (set c k (settingOf vs 1)) .reactives
-      = upto-same (λ s. getD (sumsValue c .reactives) s 0 + getD (loadValue vs .reactives) (4 + s) 0 - getD (loadValue vs .reactives) s 0) (λ s. raisedBy (length (set c k (settingOf vs 1))) (sumIn s (set c k (settingOf vs 1)) .q)) 4 0 reactive-set in
-      λ i. record { actives = actives-are i; reactives = reactives-are i }
+  exchanged-set = cc (shifted-set (actives-of vs sized) c small k inside standing, shifted-set (reactives-of vs sized) c small k inside standing)
 
 -- ---- choices of a valid book
 

@@ -1,9 +1,10 @@
--- What a value of the declared type Sums holds, and what the methods of it do (src/lib.rt).
+-- What a value of the declared type Sums holds, and what the functions on it do (src/lib.rt).
 use Prim.Native.Nat.{ℕ, _+_, _-_, _*_, _<_, _≤_}
-use mathlib.Core.List.{map}
-use lib.ListN.{length, getD}
+use mathlib.Core.List.{List, map}
+use lib.ListN.{length, getD, replicate}
 use Rattle.model.specs.declared.Load.{Load}
 use Rattle.model.specs.Lists.{upto}
+use Rattle.model.specs.Bounds.{mostSlots, mostSettings, mostPowers}
 use Rattle.model.specs.Choice.{Choice, sumIn}
 use Rattle.model.specs.Values.{raisedBy}
 use Rattle.sums.specs.declared.Sums.{Sums}
@@ -12,45 +13,57 @@ use Rattle.sums.specs.declared.Sums.{Sums}
 unfoldable pub sumsValue : Choice → Sums
 sumsValue c =
     record {
-      actives = map (λ s. sumIn s c .p) (upto 4);
-      reactives = map (λ s. raisedBy (length c) (sumIn s c .q)) (upto 4);
+      actives = map (λ s. sumIn s c .p) (upto mostSlots);
+      reactives = map (λ s. raisedBy (length c) (sumIn s c .q)) (upto mostSlots);
     }
+
+-- the sums of P, or of Q, with setting c of a load's `powers` more and setting 0 of `less` less: in slot s, and in each slot
+abbrev pub shiftedIn : List ℕ → List ℕ → ℕ → List ℕ → ℕ → ℕ
+shiftedIn sums powers c less s = getD sums s 0 + getD powers (mostSlots * c + s) 0 - getD less s 0
+
+unfoldable pub shifted : List ℕ → List ℕ → ℕ → List ℕ → List ℕ
+shifted sums powers c less = map (shiftedIn sums powers c less) (upto mostSlots)
+
+abbrev pub noPowers : List ℕ
+noPowers = replicate mostPowers 0
 
 -- the sums with setting c of one load more
 unfoldable pub added : Sums → Load → ℕ → Sums
 added v l c =
     record {
-      actives = map (λ s. getD (v .actives) s 0 + getD (l .actives) (4 * c + s) 0) (upto 4);
-      reactives = map (λ s. getD (v .reactives) s 0 + getD (l .reactives) (4 * c + s) 0) (upto 4);
+      actives = shifted (v .actives) (l .actives) c noPowers;
+      reactives = shifted (v .reactives) (l .reactives) c noPowers;
     }
 
 -- the sums with setting 1 of a load in place of its setting 0
 unfoldable pub exchanged : Sums → Load → Sums
 exchanged v l =
     record {
-      actives = map (λ s. getD (v .actives) s 0 + getD (l .actives) (4 + s) 0 - getD (l .actives) s 0) (upto 4);
-      reactives = map (λ s. getD (v .reactives) s 0 + getD (l .reactives) (4 + s) 0 - getD (l .reactives) s 0) (upto 4);
+      actives = shifted (v .actives) (l .actives) 1 (l .actives);
+      reactives = shifted (v .reactives) (l .reactives) 1 (l .reactives);
     }
 
--- ---- what the methods require
+-- ---- what the functions require
 
--- entries below 2^31: no sum of two and no sum of two squares of them wraps
+-- the first n entries are below 2^31: no sum of two and no sum of two squares of them wraps
+abbrev pub Small : ℕ → List ℕ → Type 0
+Small n xs = (k : ℕ) → k < n → getD xs k 0 < 2_147_483_648
+
 pub record SumsSmall (v : Sums) : Type 0 where
-  pub active : (s : ℕ) → s < 4 → getD (v .actives) s 0 < 2_147_483_648
-  pub reactive : (s : ℕ) → s < 4 → getD (v .reactives) s 0 < 2_147_483_648
+  pub active : Small mostSlots (v .actives)
+  pub reactive : Small mostSlots (v .reactives)
 
-pub record LoadSmall (l : Load) : Type 0 where
-  pub active : (k : ℕ) → k < 16 → getD (l .actives) k 0 < 2_147_483_648
-  pub reactive : (k : ℕ) → k < 16 → getD (l .reactives) k 0 < 2_147_483_648
+-- the sums count what is taken away
+pub record CanShift (sums powers : List ℕ) (c : ℕ) (less : List ℕ) : Type 0 where
+  pub sums-small : Small mostSlots sums
+  pub powers-small : Small mostPowers powers
+  pub place : c < mostSettings
+  pub counted : (s : ℕ) → s < mostSlots → getD less s 0 ≤ getD sums s 0
 
 pub record CanAdd (v : Sums) (l : Load) (c : ℕ) : Type 0 where
-  pub sums : SumsSmall v
-  pub load : LoadSmall l
-  pub place : c < 4
+  pub active : CanShift (v .actives) (l .actives) c noPowers
+  pub reactive : CanShift (v .reactives) (l .reactives) c noPowers
 
--- the sums count setting 0 of the load
 pub record CanExchange (v : Sums) (l : Load) : Type 0 where
-  pub sums : SumsSmall v
-  pub load : LoadSmall l
-  pub active : (s : ℕ) → s < 4 → getD (l .actives) s 0 ≤ getD (v .actives) s 0
-  pub reactive : (s : ℕ) → s < 4 → getD (l .reactives) s 0 ≤ getD (v .reactives) s 0
+  pub active : CanShift (v .actives) (l .actives) 1 (l .actives)
+  pub reactive : CanShift (v .reactives) (l .reactives) 1 (l .reactives)

@@ -9,39 +9,37 @@ ghost use Rattle.model.specs.Choice.{Choice, worthOf, codeOf, square};
 ghost use Rattle.model.specs.Grid.{slotsOf, keepsLimits};
 ghost use Rattle.model.specs.Valid.{SettingSmall};
 ghost use Rattle.model.specs.Values.{Held, Picked, choiceOf, problemOf};
-ghost use Rattle.sums.specs.Sums.{sumsValue, added, exchanged, SumsSmall, CanAdd, CanExchange};
+ghost use Rattle.sums.specs.Sums.{sumsValue, shifted, added, exchanged, SumsSmall, CanShift, CanAdd, CanExchange};
 use model::Book;
 use model::Load;
 
 // The sums in each slot: P, and Q + 32,768 for each load.
 pub struct Sums {
-    pub actives: [u64; 4],
-    pub reactives: [u64; 4],
+    pub actives: [u64; Book::SLOTS],
+    pub reactives: [u64; Book::SLOTS],
 }
 
 impl Sums {
-    pub fn none() -> Sums
+    fn none() -> Sums
         ensures { λ r. ⌜ r ≡ sumsValue [] ⌝ }
     {
         Sums {
-            actives: [0; 4],
-            reactives: [0; 4],
+            actives: [0; Book::SLOTS],
+            reactives: [0; Book::SLOTS],
         }
     }
 
     // With setting c of one load more.
-    pub fn plus(mut self, load: Load, c: usize) -> Sums
+    fn plus(mut self, load: Load, c: usize) -> Sums
         requires { ⌜ CanAdd self load c ⌝ }
         ensures { λ r. ⌜ r ≡ added self load c ⌝ }
     {
-        let mut actives = self.actives;
-        let mut reactives = self.reactives;
-        let mut s: usize = 0;
-        while s < 4 {
-            actives[s] = self.actives[s] + load.actives[4 * c + s];
-            reactives[s] = self.reactives[s] + load.reactives[4 * c + s];
-            s += 1;
-        }
+        let actives = self.actives;
+        let reactives = self.reactives;
+        let p = load.actives;
+        let q = load.reactives;
+        let actives = shifted(actives, p, c, [0; Load::POWERS]);
+        let reactives = shifted(reactives, q, c, [0; Load::POWERS]);
         self.actives = actives;
         self.reactives = reactives;
         self
@@ -52,22 +50,39 @@ impl Sums {
         requires { ⌜ CanExchange self load ⌝ }
         ensures { λ r. ⌜ r ≡ exchanged self load ⌝ }
     {
-        let mut actives = self.actives;
-        let mut reactives = self.reactives;
-        let mut s: usize = 0;
-        while s < 4 {
-            actives[s] = self.actives[s] + load.actives[4 + s] - load.actives[s];
-            reactives[s] = self.reactives[s] + load.reactives[4 + s] - load.reactives[s];
-            s += 1;
-        }
+        let actives = self.actives;
+        let reactives = self.reactives;
+        let p = load.actives;
+        let q = load.reactives;
+        let actives = shifted(actives, p, 1, p);
+        let reactives = shifted(reactives, q, 1, q);
         self.actives = actives;
         self.reactives = reactives;
         self
     }
 }
 
+// The sums of P, or of Q, with setting c of a load's `powers` more and setting 0 of `less` less.
+fn shifted(
+    sums: [u64; Book::SLOTS],
+    powers: [u64; Load::POWERS],
+    c: usize,
+    less: [u64; Load::POWERS],
+) -> [u64; Book::SLOTS]
+    requires { ⌜ CanShift sums powers c less ⌝ }
+    ensures { λ r. ⌜ r ≡ shifted sums powers c less ⌝ }
+{
+    let mut next = sums;
+    let mut s: usize = 0;
+    while s < Book::SLOTS {
+        next[s] = sums[s] + powers[Book::SLOTS * c + s] - less[s];
+        s += 1;
+    }
+    next
+}
+
 // The sums of the choice whose numbers are in `picks`.
-pub fn sums_of(book: Book, picks: [usize; 24]) -> Sums
+pub fn sums_of(book: Book, picks: [usize; Book::LOADS]) -> Sums
     requires { ⌜ Held book ⌝ }
     requires { ⌜ Picked (problemOf book) picks ⌝ }
     ensures { λ r. ⌜ r ≡ sumsValue (choiceOf (problemOf book) picks) ⌝ }
@@ -82,7 +97,7 @@ pub fn sums_of(book: Book, picks: [usize; 24]) -> Sums
     sums
 }
 
-pub fn worth_of(book: Book, picks: [usize; 24]) -> u64
+pub fn worth_of(book: Book, picks: [usize; Book::LOADS]) -> u64
     requires { ⌜ Held book ⌝ }
     requires { ⌜ Picked (problemOf book) picks ⌝ }
     ensures { λ r. ⌜ r ≡ worthOf (choiceOf (problemOf book) picks) ⌝ }
@@ -99,7 +114,7 @@ pub fn worth_of(book: Book, picks: [usize; 24]) -> u64
 }
 
 // From the last load down.
-pub fn code_of(book: Book, picks: [usize; 24]) -> u64
+pub fn code_of(book: Book, picks: [usize; Book::LOADS]) -> u64
     requires { ⌜ Held book ⌝ }
     requires { ⌜ Picked (problemOf book) picks ⌝ }
     ensures { λ r. ⌜ r ≡ codeOf (choiceOf (problemOf book) picks) ⌝ }

@@ -15,7 +15,7 @@ pub struct Cell {
 
 impl Cell {
     // This cell after it is offered the choice of `src` with a setting's gain and digit: only a greater worth replaces.
-    pub fn offer(self, src: Cell, gain: u64, digit: u64) -> Cell
+    fn offer(self, src: Cell, gain: u64, digit: u64) -> Cell
         requires { ⌜ Room src gain digit ⌝ }
         ensures { λ r. ⌜ r ≡ offered self src gain digit ⌝ }
     {
@@ -55,7 +55,7 @@ pub fn put(work: &mut [u64], x: usize, c: Cell)
 
 // Offers the cell `to` the choice of the cell `from`, with a setting's gain and digit. An empty cell offers nothing, and the cell `to` is
 // not touched: most cells of a sparse table are empty.
-pub fn offer_cell(work: &mut [u64], from: usize, to: usize, gain: u64, digit: u64)
+fn offer_cell(work: &mut [u64], from: usize, to: usize, gain: u64, digit: u64)
     requires { ⌜ (2 * from + 1 < length (now work)) × (2 * to + 1 < length (now work)) ⌝ }
     requires { ⌜ Room (cellAt (now work) from) gain digit ⌝ }
     ensures { λ _. ⌜ now (work .exit) ≡ offeredAt (now (work .entry)) from to gain digit ⌝ }
@@ -82,7 +82,7 @@ pub fn offer_row(work: &mut [u64], from: usize, to: usize, len: usize, gain: u64
 }
 
 // Copies each of `len` cells, from `from` on, to the cell as far from `to`.
-pub fn copy_row(work: &mut [u64], from: usize, to: usize, len: usize)
+fn copy_row(work: &mut [u64], from: usize, to: usize, len: usize)
     requires { ⌜ Rows (now work) from to len ⌝ }
     ensures { λ _. ⌜ Filled (now (work .entry)) (now (work .exit)) to len (copiedRow (now (work .entry)) from) ⌝ }
 {
@@ -95,14 +95,14 @@ pub fn copy_row(work: &mut [u64], from: usize, to: usize, len: usize)
 }
 
 // 1 for a reached cell, 0 for an empty one.
-pub fn one(worth: u64) -> usize
+fn one(worth: u64) -> usize
     ensures { λ r. ⌜ (r ≡ cond (ltb 0 worth) 1 0) × (r ≤ 1) ⌝ }
 {
     if 0 < worth { 1 } else { 0 }
 }
 
 // Counts the reached cells among the `len` cells from `at` on.
-pub fn count_row(work: &[u64], at: usize, len: usize) -> usize
+fn count_row(work: &[u64], at: usize, len: usize) -> usize
     requires { ⌜ 2 * (at + len) ≤ length (now work) ⌝ }
     ensures { λ r. ⌜ (r ≡ countUpto len (reached (now (work .entry)) at)) × (r ≤ len) ⌝ }
 {

@@ -29,7 +29,7 @@ fn main() -> ExitCode {
     let shapes = SHAPES.iter().cycle().take(BOOKS);
     let books: Vec<Book> = shapes.map(|&shape| book(random, shape, sign)).collect();
     println!("{}", size(&books));
-    ExitCode::from(u8::from(!books.iter().all(spent)))
+    ExitCode::from(u8::from(!books.iter().all(budget_exceeded)))
 }
 
 /// A book with a budget of 0 whose every Q has the sign.
@@ -91,8 +91,8 @@ fn size(books: &[Book]) -> String {
     )
 }
 
-/// Whether a call says that the budget is spent.
-fn spent(book: &Book) -> bool {
+/// Whether a call is refused for its budget (12, spent).
+fn budget_exceeded(book: &Book) -> bool {
     let words = 4 * grid::cells(&grid::slots(book)) as usize;
     let answer = plan(&draw::text(book), &mut vec![0; words], &mut [0; SHEET_MAX]);
     if answer.number != 12 {

@@ -140,7 +140,7 @@ impl Bench {
         (answer, start.elapsed())
     }
 
-    /// Measures and prints. A spent book has no trials in its answer, so its budget stands for them.
+    /// Measures and prints. A book over its budget has no trials in its answer, so the budget stands for them.
     fn row(&mut self, name: &str, book: &[u8]) {
         let timing = self.measure(book);
         let Timing { answer, ours, rust, .. } = timing;

@@ -38,7 +38,7 @@ impl Slot {
 
     /// Whether some (p, q) with aL ≤ p ≤ aL + e and bL ≤ q ≤ bL + e has p² + q² ≤ S².
     pub fn admits(&self, a: i64, b: i64) -> bool {
-        if self.slack() <= SEARCHED {
+        if self.spread() <= SEARCHED {
             self.admits_some(a, b)
         } else {
             self.admits_nearest(a, b)
@@ -46,7 +46,7 @@ impl Slot {
     }
 
     /// e = N × (L - 1).
-    fn slack(&self) -> i64 {
+    fn spread(&self) -> i64 {
         self.loads * (self.step - 1)
     }
 
@@ -55,12 +55,12 @@ impl Slot {
     }
 
     fn admits_some(&self, a: i64, b: i64) -> bool {
-        let (p, q, e) = (a * self.step, b * self.step, self.slack());
+        let (p, q, e) = (a * self.step, b * self.step, self.spread());
         (p..=p + e).any(|p| (q..=q + e).any(|q| self.within_limit(p, q)))
     }
 
     fn admits_nearest(&self, a: i64, b: i64) -> bool {
-        let (p, q, e) = (a * self.step, b * self.step, self.slack());
+        let (p, q, e) = (a * self.step, b * self.step, self.spread());
         self.within_limit(p, 0.clamp(q, q + e))
     }
 }

@@ -116,8 +116,8 @@ fn next_line<'a>(rest: &mut &'a [u8], line: u64, kind: u64) -> Result<Fields<'a>
     };
     *rest = &rest[end + 1..];
     fields.refuse_unless(fields.digits.iter().all(|&byte| value(byte) != NO_DIGIT), 2)?;
-    let stray = fields.digits.len() < 4 || fields.next(2) != kind;
-    fields.refuse_unless(!stray, 3)?;
+    let wrong_kind = fields.digits.len() < 4 || fields.next(2) != kind;
+    fields.refuse_unless(!wrong_kind, 3)?;
     Ok(fields)
 }
 

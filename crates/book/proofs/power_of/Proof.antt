@@ -4,7 +4,7 @@ use Prim.Native.Nat.{_+_, _-_, _*_, _/_, _%_}
 use Rattle.model.specs.Book.{powerAt}
 use Rattle.model.specs.Values.{raised}
 use Rattle.book.specs.Lines.{powerValue}
-use Rattle.book.proofs.LineLaws.{power-standing, power-past, power-no-slot, power-option, option-small, option-next, room}
+use Rattle.book.proofs.LineLaws.{power-standing, power-past, power-no-slot, power-option, option-small, option-next, holds-option}
 use native.Mathlib.Omega.{arith}
 use borrow.Author.Needs.{needs}
 use Rattle.book.proofs.power_of.Statement.{statement}
@@ -51,7 +51,7 @@ add-power-at-2 c =
 power-at-requires : tie.Need-power-at-requires
 power-at-requires c κs =
     let a = c .before .before .before .before .before .args in
-    let r = room (a .slots) (a .k / 4 - 1) (a .count) (a .line .now) (c .before .before .before .before .before .pre) (omega arith) in
+    let r = holds-option (a .slots) (a .k / 4 - 1) (a .count) (a .line .now) (c .before .before .before .before .before .pre) (omega arith) in
     omega (arith, option-next (a .slots) (a .k / 4 - 1))
 
 returns-4 : tie.Need-returns-4

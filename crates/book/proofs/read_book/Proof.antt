@@ -12,7 +12,7 @@ use Rattle.model.specs.Refusals.{first}
 use Rattle.model.specs.Book.{headerRules}
 use Rattle.model.specs.Values.{freshBook, readingOf}
 use Rattle.book.specs.Lines.{restRead}
-use Rattle.book.proofs.ReadLaws.{book-torn, header-refused, header-passed, rest-is}
+use Rattle.book.proofs.LoadsLaws.{book-unterminated, header-refused, header-passed, rest-is}
 use native.Mathlib.Omega.{arith}
 use borrow.Author.Needs.{needs}
 use Rattle.book.proofs.read_book.Statement.{statement}
@@ -35,7 +35,7 @@ returns c =
     let s = c .before .before .before .before .before .args .s .now in
     let e : c .no-book .result ≡ bare (c .before .refusal .result) = c .no-book .ensures in
     let h : length s ≤ lineLength s = rw (← (c .before .before .before .line-length .ensures)) (c .before .before .if1 .taken) in
-    e ∙ ap bare (c .before .refusal .ensures) ∙ ap readingOf (sym (book-torn s h))
+    e ∙ ap bare (c .before .refusal .ensures) ∙ ap readingOf (sym (book-unterminated s h))
 
 sub-line : tie.Need-sub-line
 sub-line c = search needs

@@ -11,7 +11,7 @@ use Rattle.model.specs.Book.{optionCount, loadRules, settings}
 use Rattle.model.specs.Values.{loadValue}
 use Rattle.book.specs.Lines.{loadsReading}
 use Rattle.book.proofs.LineLaws.{load-line, line-holds}
-use Rattle.book.proofs.ReadLaws.{Read, read-none, read-torn, read-refused, read-more, read-trailing, read-all, length-is, line-is, after-is}
+use Rattle.book.proofs.LoadsLaws.{Read, read-none, read-unterminated, read-refused, read-more, read-trailing, read-all, length-is, line-is, after-is}
 use borrow.Author.Needs.{needs}
 use native.Mathlib.Omega.{arith}
 use Rattle.book.proofs.read_loads.Statement.{statement}
@@ -54,7 +54,7 @@ returns c =
     let n = c .before .before .line-length .result in
     let en : n ≡ lineLength (drop (l .at) (a .s .now)) = length-is (a .s .now) (l .at) n (l .inv .0) (c .before .before .line-length .ensures) in
     let e : c .no-loads .result ≡ loadsReading (refused Unterminated (l .k + 2)) = c .no-loads .ensures in
-    e ∙ ap loadsReading (sym (read-torn (a .slots) (a .count) (a .s .now) (l .at) (l .k) (l .loads) (l .inv .3) (omega arith) (rw length-drop (omega arith))))
+    e ∙ ap loadsReading (sym (read-unterminated (a .slots) (a .count) (a .s .now) (l .at) (l .k) (l .loads) (l .inv .3) (omega arith) (rw length-drop (omega arith))))
 
 add-end : tie.Need-add-end Inv-loop μ-loop
 add-end c = search needs
@@ -173,11 +173,14 @@ returns-3 c =
     let e : c .no-loads3 .result ≡ loadsReading (refused TrailingBytes (l .k + 2)) = c .no-loads3 .ensures in
     e ∙ ap loadsReading (sym (read-trailing (a .slots) (a .count) (a .s .now) (l .at) (l .k) (l .loads) (l .inv .3) (omega arith) (rw length-drop (omega arith))))
 
+success-requires : tie.Need-success-requires Inv-loop μ-loop
+success-requires c κs = search needs
+
 returns-4 : tie.Need-returns-4 Inv-loop μ-loop
 returns-4 c =
-    let a = c .before .before .before .before .before .args in
-    let l = c .before .before .loop in
-    rw (read-all (a .slots) (a .count) (a .s .now) (l .at) (l .k) (l .loads) (l .inv .3) (omega arith) (rw length-drop (omega arith)), l .inv .3 .stored)
+    let a = c .before .before .before .before .before .before .args in
+    let l = c .before .before .before .loop in
+    rw (c .success .ensures, read-all (a .slots) (a .count) (a .s .now) (l .at) (l .k) (l .loads) (l .inv .3) (omega arith) (rw length-drop (omega arith)), l .inv .3 .stored)
 
 pub read-loads-spec : {M : Type 1} → statement M
 read-loads-spec =
@@ -215,4 +218,5 @@ read-loads-spec =
     add-no-loads-3
     no-loads-requires-3
     returns-3
+    success-requires
     returns-4)

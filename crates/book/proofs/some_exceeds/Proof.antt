@@ -6,7 +6,7 @@ use mathlib.Core.List.{List, map}
 use Rattle.model.specs.Lists.{upto, any}
 use Rattle.model.specs.Book.{Power, Setting, optionCount, optionStart, powerAt, optionAt, reactiveExceeds, someExceeds}
 use Rattle.model.proofs.UptoLaws.{any-here, any-more}
-use Rattle.book.proofs.LineLaws.{room}
+use Rattle.book.proofs.LineLaws.{holds-option}
 use borrow.Author.Needs.{needs}
 use native.Mathlib.Omega.{arith}
 use Rattle.book.proofs.some_exceeds.Statement.{statement}
@@ -43,7 +43,7 @@ loop-holds c = (search needs, c .before .options .inv .1, refl)
 exceeds-at-requires : tie.Need-exceeds-at-requires Inv-loop μ-loop Inv-options μ-options
 exceeds-at-requires c κs =
     let a = c .before .before .before .before .before .args in
-    (room (a .slots) (c .before .before .before .options .j) (a .count) _ (c .before .before .before .before .before .pre) (c .before .before .options-test .taken), c .loop-test .taken)
+    (holds-option (a .slots) (c .before .before .before .options .j) (a .count) _ (c .before .before .before .before .before .pre) (c .before .before .options-test .taken), c .loop-test .taken)
 
 add-s : tie.Need-add-s Inv-loop μ-loop Inv-options μ-options
 add-s c = search needs

@@ -1,7 +1,7 @@
 -- `book::worth_of` meets its contract: standing, past the last option, or an option. Assumes nothing.
 use mathlib.Core.Path.{_≡_, _∙_}
 use Prim.Native.Nat.{_-_}
-use Rattle.book.proofs.LineLaws.{setting-option, setting-past, option-next, room}
+use Rattle.book.proofs.LineLaws.{setting-option, setting-past, option-next, holds-option}
 use native.Mathlib.Omega.{arith}
 use borrow.Author.Needs.{needs}
 use Rattle.book.proofs.worth_of.Statement.{statement}
@@ -25,7 +25,7 @@ option-start-requires c κs = search needs
 number-requires : tie.Need-number-requires
 number-requires c κs =
     let a = c .before .before .before .before .args in
-    let r = room (a .slots) (a .c - 1) (a .count) (a .line .now) (c .before .before .before .before .pre) (omega arith) in
+    let r = holds-option (a .slots) (a .c - 1) (a .count) (a .line .now) (c .before .before .before .before .pre) (omega arith) in
     omega (arith, option-next (a .slots) (a .c - 1))
 
 returns-3 : tie.Need-returns-3

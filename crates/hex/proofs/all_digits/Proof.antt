@@ -5,7 +5,7 @@ use lib.ListN.{length, drop}
 use borrow.Author.Tests.{not-true, not-false}
 use Rattle.model.specs.Lists.{all}
 use Rattle.model.specs.Frames.{isDigit}
-use Rattle.hex.proofs.ReadLaws.{digits-go, digits-stop, digits-end}
+use Rattle.hex.proofs.FieldLaws.{digits-go, digits-stop, digits-end}
 use borrow.Author.Needs.{needs}
 use native.Mathlib.Omega.{arith}
 use Rattle.hex.proofs.all_digits.Statement.{statement}

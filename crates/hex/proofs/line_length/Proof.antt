@@ -4,7 +4,7 @@ use mathlib.Core.Path.{_≡_}
 use native.Mathlib.Nat.{zero-add}
 use lib.ListN.{length, drop}
 use Rattle.model.specs.Frames.{lineLength}
-use Rattle.hex.proofs.ReadLaws.{line-go, line-stop, line-end}
+use Rattle.hex.proofs.FieldLaws.{line-go, line-stop, line-end}
 use borrow.Author.Needs.{needs}
 use native.Mathlib.Omega.{arith}
 use Rattle.hex.proofs.line_length.Statement.{statement}

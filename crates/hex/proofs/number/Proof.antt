@@ -4,7 +4,7 @@ use mathlib.Core.Path.{_≡_, refl, ap, _∙_}
 use lib.ListN.{getD}
 use Rattle.model.specs.Frames.{valueFrom, field}
 use Rattle.model.proofs.FrameLaws.{field-small, value-below}
-use Rattle.hex.proofs.ReadLaws.{field-more}
+use Rattle.hex.proofs.FieldLaws.{field-more}
 use borrow.Author.Needs.{needs}
 use native.Mathlib.Omega.{arith}
 use Rattle.hex.proofs.number.Statement.{statement}

@@ -60,6 +60,9 @@ mul-product c = omega (arith, mul-le-mul (small c .0) (small c .1))
 mul-product-2 : tie.Need-mul-product-2 Inv-loop μ-loop
 mul-product-2 c = omega (arith, mul-le-mul (c .before .before .before .before .loop .inv .2) (mul-le-mul (small c .0) (small c .1)))
 
+add-result : tie.Need-add-result Inv-loop μ-loop
+add-result c = search needs
+
 returns : tie.Need-returns Inv-loop μ-loop
 returns c = counted-over _ _ (c .before .before .before .before .before .loop .t + 1) _ (c .if2 .taken) (more (c .before))
 
@@ -91,6 +94,7 @@ cells-of-spec =
     element-copy-out-wide
     mul-product
     mul-product-2
+    add-result
     returns
     add-t
     loop-less

@@ -3,6 +3,7 @@ use mathlib.Core.Path.{sym}
 use lib.Seq.{length-take-le}
 use native.Mathlib.Omega.{arith}
 use borrow.Author.Needs.{needs}
+use Rattle.print.proofs.PrintLaws.{printed-fits}
 use Rattle.loadplan.proofs.main.Statement.{statement}
 use Rattle.loadplan.proofs.main.Tie as tie
 
@@ -36,10 +37,10 @@ output-requires : tie.Need-output-requires
 output-requires c κs = search needs
 
 array-share-prefix-bytes : tie.Need-array-share-prefix-bytes
-array-share-prefix-bytes c = c .before .output .ensures .1
+array-share-prefix-bytes c = printed-fits _ _ (c .before .output .ensures)
 
 slice-aggregate-write-all-2 : tie.Need-slice-aggregate-write-all-2
-slice-aggregate-write-all-2 c = let o = c .before .before .output in sym (length-take-le (o .result .length) (o .result .bytes) (o .ensures .1))
+slice-aggregate-write-all-2 c = let o = c .before .before .output in sym (length-take-le (o .result .length) (o .result .bytes) (printed-fits _ _ (o .ensures)))
 
 write-all-requires-2 : tie.Need-write-all-requires-2
 write-all-requires-2 c κs = search needs

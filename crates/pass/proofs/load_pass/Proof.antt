@@ -5,7 +5,7 @@ use native.Mathlib.Omega.{arith}
 use Prim.Native.Nat.{_≤_, _-_, _*_}
 use mathlib.Core.Path.{_≡_, refl}
 use mathlib.Core.Bool.{true}
-use Rattle.pass.specs.Pass.{held, countRows, Idle, LayerMade}
+use Rattle.pass.specs.Pass.{held, countRows, EmptyFrom, LayerMade}
 use Rattle.pass.proofs.SourceLaws.{row-end, next-row}
 use Rattle.pass.proofs.LayerLaws.{below, idle-set, layer-rest, layer-rest-count, layer-none, layer-rows, layer-room, layer-more, layer-count, layer-all, layer-total}
 use Rattle.pass.proofs.load_pass.Statement.{statement}
@@ -15,7 +15,7 @@ abbrev Inv-loop : tie.InvT-loop
 Inv-loop work₀ grid cur next lows highs newlows₀ newhighs₀ load used rows asked reached₀ row₀ work newlows newhighs reached row =
     (row ≤ rows) × (reached ≤ row * grid .width)
     × (asked ≡ true → reached ≡ countRows row (grid .width) (held work newlows newhighs next (grid .width)))
-    × LayerMade work₀ work lows highs newlows newhighs grid cur next load row × Idle newlows newhighs rows
+    × LayerMade work₀ work lows highs newlows newhighs grid cur next load row × EmptyFrom newlows newhighs rows
 
 abbrev μ-loop : tie.MeasureT-loop
 μ-loop work₀ grid cur next lows highs newlows₀ newhighs₀ load used rows asked reached₀ row₀ work newlows newhighs reached row =

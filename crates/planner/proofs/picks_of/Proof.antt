@@ -4,10 +4,10 @@ use mathlib.Core.Path.{_≡_, refl, sym, ap, _∙_}
 use mathlib.Core.List.{_++_, append-nil}
 use native.Mathlib.Nat.{sub-zero}
 use lib.ListN.{length, take, length-set}
-use Rattle.planner.proofs.PickLaws.{decode-more}
+use Rattle.model.specs.Choice.{decode}
 use borrow.Author.Needs.{needs}
 use native.Mathlib.Omega.{arith}
-use Rattle.model.specs.Choice.{decode}
+use Rattle.planner.proofs.PickLaws.{decode-more}
 use Rattle.planner.proofs.picks_of.Statement.{statement}
 use Rattle.planner.proofs.picks_of.Tie as tie
 

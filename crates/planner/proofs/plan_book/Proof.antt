@@ -1,11 +1,12 @@
 -- `planner::plan_book` meets its contract: refusals 9 to 11 in order, and then the plan. Assumes nothing.
-use mathlib.Core.Path.{sym, ap, subst, _∙_}
+use mathlib.Core.Path.{sym, ap, subst}
 use lib.ListN.{length}
 use Rattle.model.specs.Refusals.{andThen}
 use Rattle.model.specs.Trials.{WordsKept}
-use Rattle.model.specs.Calls.{answerOf, bufferAfter, planSheet, freeFor}
+use Rattle.model.specs.Calls.{planSheet, freeFor}
 use Rattle.model.specs.Values.{problemOf}
-use Rattle.planner.proofs.CallLaws.{fit-oversize, fit-cramped, fit-short, fit-done, size-refused}
+use Rattle.model.proofs.ReadingLaws.{writes-same}
+use Rattle.planner.proofs.CallLaws.{fit-many, fit-small, fit-short, fit-done, size-refused}
 use native.Mathlib.Omega.{arith}
 use borrow.Author.Needs.{needs}
 use Rattle.planner.proofs.plan_book.Statement.{statement}
@@ -24,7 +25,7 @@ returns : tie.Need-returns
 returns c =
     let a = c .before .before .before .before .before .before .args in
     size-refused (a .work .now) (a .sheet .now) (problemOf (a .book)) _ _ (c .refusal .ensures)
-    (fit-oversize _ _ _ (c .before .before .cells-of .ensures .over (c .before .if1 .taken)))
+    (fit-many _ _ _ (c .before .before .cells-of .ensures .over (c .before .if1 .taken)))
 
 mul-if2 : tie.Need-mul-if2
 mul-if2 c = search needs
@@ -37,7 +38,7 @@ returns-2 c =
     let a = c .before .before .before .before .before .before .before .args in
     let n = c .before .before .before .cells-of .ensures .exact (omega (arith, c .before .before .if1 .left)) in
     size-refused (a .work .now) (a .sheet .now) (problemOf (a .book)) _ _ (c .refusal2 .ensures)
-    (fit-cramped _ _ _ (omega (arith, n, c .before .before .if1 .left)) (omega (arith, n, c .before .if2 .taken)))
+    (fit-small _ _ _ (omega (arith, n, c .before .before .if1 .left)) (omega (arith, n, c .before .if2 .taken)))
 
 sheet-length-requires : tie.Need-sheet-length-requires
 sheet-length-requires c κs = search needs
@@ -90,13 +91,9 @@ returns-4 c =
     let p = c .before .before .before .before .plan-for .ensures in
     let e = fit-done (length (a .work .now)) (length (a .sheet .now)) (problemOf (a .book)) (omega (arith, n, few))
     (omega (arith, n, c .before .before .before .before .before .before .before .before .before .before .if2 .left))
-    (omega (arith, c .before .before .before .before .before .before .before .before .before .sheet-length .ensures, c .before .before .before .before .before .before .before .before .if3 .left)) in
-    let q = ap (λ x. andThen x planSheet) (sym e) in (
-      p .0 ∙ ap answerOf q,
-      (
-        p .1 .0 ∙ ap (λ x. bufferAfter x (a .sheet .now)) q,
-        subst (λ n. WordsKept n (a .work .now) (c .before .before .before .before .plan-for .last .1 .1 .1 .0)) (ap freeFor (sym e)) (p .1 .1),
-      ),
+    (omega (arith, c .before .before .before .before .before .before .before .before .before .sheet-length .ensures, c .before .before .before .before .before .before .before .before .if3 .left)) in (
+      writes-same (ap (λ x. andThen x planSheet) (sym e)) (p .0),
+      subst (λ n. WordsKept n (a .work .now) (c .before .before .before .before .plan-for .last .1 .1 .1 .0)) (ap freeFor (sym e)) (p .1),
     )
 
 pub plan-book-spec : {M : Type 1} → statement M

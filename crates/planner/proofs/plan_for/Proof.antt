@@ -1,11 +1,10 @@
 -- `planner::plan_for` meets its contract: refusal 12, or the sheet of what the search found. Assumes nothing.
-use mathlib.Core.Path.{sym, ap, _∙_}
-use Rattle.model.specs.Calls.{answerOf, bufferAfter}
-use Rattle.planner.proofs.CallLaws.{plan-spent}
-use Rattle.planner.proofs.FoundLaws.{found-picked, found-sheet}
+use Rattle.model.proofs.HeldLaws.{held-few}
+use Rattle.model.proofs.ReadingLaws.{writes-same, refused-writes}
 use borrow.Author.Tests.{not-true, not-false}
 use borrow.Author.Needs.{needs}
-use Rattle.model.proofs.HeldLaws.{held-few}
+use Rattle.planner.proofs.CallLaws.{plan-over}
+use Rattle.planner.proofs.FoundLaws.{found-picked, found-sheet}
 use Rattle.planner.proofs.plan_for.Statement.{statement}
 use Rattle.planner.proofs.plan_for.Tie as tie
 
@@ -22,8 +21,7 @@ returns : tie.Need-returns
 returns c =
     let s = c .before .before .before .before .before .before .before .before .before in
     let f = c .before .before .before .before .before .search-for in
-    let e = plan-spent _ (f .ensures .0 .spent (not-true _ (c .before .if1 .taken))) in
-    (c .refusal .ensures ∙ ap answerOf (sym e), (ap (λ x. bufferAfter x (s .args .sheet .now)) (sym e), f .ensures .1))
+    (refused-writes _ _ _ (s .args .sheet .now) _ (c .refusal .ensures) (plan-over _ (f .ensures .0 .over (not-true _ (c .before .if1 .taken)))), f .ensures .1)
 
 picks-of-requires : tie.Need-picks-of-requires
 picks-of-requires c κs = held-few (c .before .before .before .before .before .before .before .before .args .book) (c .before .before .before .before .before .before .before .before .pre .0)
@@ -45,8 +43,7 @@ returns-2 c =
     let s = c .before .before .before .before .before .before .before .before .before .before .before .before .before in
     let f = c .before .before .before .before .before .before .before .before .before .search-for in
     let e = found-sheet (s .args .book) (s .pre .0) _ (f .ensures .0) (not-false _ (c .before .before .before .before .before .if1 .left)) _ (c .before .before .before .before .picks-of .ensures) in
-    let w = c .before .before .write-sheet .ensures in
-    (w .0 ∙ ap answerOf e, (w .1 ∙ ap (λ x. bufferAfter x (s .args .sheet .now)) e, f .ensures .1))
+    (writes-same e (c .before .before .write-sheet .ensures), f .ensures .1)
 
 pub plan-for-spec : {M : Type 1} → statement M
 plan-for-spec =

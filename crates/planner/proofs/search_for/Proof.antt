@@ -1,6 +1,6 @@
 -- `planner::search_for` meets its contract: the search runs over the book's layout, and the scan finds the plan. Assumes nothing.
 use Rattle.search.proofs.ModelLaws.{grid-fits}
-use Rattle.planner.proofs.SearchLaws.{model, scanned, layer-room, words-enough, words-kept, found-spent, found-within}
+use Rattle.planner.proofs.SearchLaws.{model, scanned, layer-room, words-enough, words-kept, found-over, found-within}
 use native.Mathlib.Omega.{arith}
 use borrow.Author.Needs.{needs}
 use Rattle.planner.proofs.search_for.Statement.{statement}
@@ -20,7 +20,7 @@ returns c =
     let s = c .before .before .before .before .before .before .before .before in
     let p = s .pre in
     let r = c .before .before .before .search in (
-      found-spent (s .args .book) (p .0) (s .args .layout) (p .1 .1 .0) _ _ _ _ _ (r .ensures .1 .1 (model (s .args .book) (p .0) (s .args .layout) (p .1 .1 .0))) (c .if1 .taken) 0,
+      found-over (s .args .book) (p .0) (s .args .layout) (p .1 .1 .0) _ _ _ _ _ (r .ensures .1 .1 (model (s .args .book) (p .0) (s .args .layout) (p .1 .1 .0))) (c .if1 .taken) 0,
       words-kept (s .args .book) (p .0) (s .args .layout) (p .1 .1 .0) _ _ _ _ _ (r .ensures .1 .0) (r .ensures .0),
     )
 

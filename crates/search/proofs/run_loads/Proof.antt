@@ -6,7 +6,7 @@ use native.Mathlib.Omega.{arith}
 use Prim.Native.Nat.{ℕ, _≤_, _-_, _*_}
 use mathlib.Core.Path.{_≡_}
 use lib.ListN.{length, length-replicate}
-use Rattle.pass.specs.Pass.{Idle}
+use Rattle.pass.specs.Pass.{EmptyFrom}
 use Rattle.pass.proofs.LayerLaws.{idle-more}
 use Rattle.search.specs.Search.{Modelled, Run}
 use Rattle.search.proofs.ModelLaws.{rows-one, grid-fits, load-fits}
@@ -17,7 +17,7 @@ use Rattle.search.proofs.run_loads.Tie as tie
 abbrev Inv-loop : tie.InvT-loop
 Inv-loop work₀ grid origin n budget moves cells lows₀ highs₀ newlows₀ newhighs₀ trials₀ reached₀ cur₀ used₀ k₀ work lows highs newlows newhighs trials reached cur used k =
     (k ≤ n) × (trials ≤ k * 4194304) × (length newlows ≡ 724) × (length newhighs ≡ 724)
-    × (used ≤ grid .rows) × Idle lows highs used × Idle newlows newhighs used
+    × (used ≤ grid .rows) × EmptyFrom lows highs used × EmptyFrom newlows newhighs used
     × ((m : Modelled grid origin n moves) → Run work₀ work lows highs grid origin n moves m k cur reached trials)
 
 abbrev μ-loop : tie.MeasureT-loop

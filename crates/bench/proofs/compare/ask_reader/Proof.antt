@@ -15,6 +15,12 @@ slice-aggregate-read-sheet-2 c = let a = c .before .before .before .before .befo
 read-sheet-requires : tie.Need-read-sheet-requires
 read-sheet-requires c κs = search needs
 
+no-reading-requires : tie.Need-no-reading-requires
+no-reading-requires c κs = search needs
+
+no-reading-requires-2 : tie.Need-no-reading-requires-2
+no-reading-requires-2 c κs = search needs
+
 returns : tie.Need-returns
 returns c = search needs
 
@@ -25,4 +31,4 @@ returns-3 : tie.Need-returns-3
 returns-3 c = search needs
 
 pub ask-reader-spec : {M : Type 1} → statement M
-ask-reader-spec = tie.close (tie.spec slice-aggregate-read-sheet slice-aggregate-read-sheet-2 read-sheet-requires returns returns-2 returns-3)
+ask-reader-spec = tie.close (tie.spec slice-aggregate-read-sheet slice-aggregate-read-sheet-2 read-sheet-requires no-reading-requires no-reading-requires-2 returns returns-2 returns-3)

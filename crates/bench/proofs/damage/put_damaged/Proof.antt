@@ -7,13 +7,13 @@ use Rattle.bench.proofs.damage.put_damaged.Statement.{statement}
 use Rattle.bench.proofs.damage.put_damaged.Tie as tie
 
 abbrev Inv-loop : tie.InvT-loop
-Inv-loop text₀ dice₀ book faults torn end₀ line₀ line-end text dice end line = (length text ≡ length text₀) × (length dice ≡ length dice₀)
+Inv-loop text₀ dice₀ book faults unterminated end₀ line₀ line-end text dice end line = (length text ≡ length text₀) × (length dice ≡ length dice₀)
 
 abbrev μ-loop : tie.MeasureT-loop
-μ-loop text₀ dice₀ book faults torn end₀ line₀ line-end text dice end line = line-end - line
+μ-loop text₀ dice₀ book faults unterminated end₀ line₀ line-end text dice end line = line-end - line
 
-torn-line-requires : tie.Need-torn-line-requires Inv-loop μ-loop
-torn-line-requires c κs = search needs
+unterminated-line-requires : tie.Need-unterminated-line-requires Inv-loop μ-loop
+unterminated-line-requires c κs = search needs
 
 loads-requires : tie.Need-loads-requires Inv-loop μ-loop
 loads-requires c κs = search needs
@@ -55,4 +55,4 @@ returns : tie.Need-returns Inv-loop μ-loop
 returns c = search needs
 
 pub put-damaged-spec : {M : Type 1} → statement M
-put-damaged-spec = tie.close (tie.spec Inv-loop μ-loop torn-line-requires loads-requires plus-requires lesser-requires plus-requires-2 loop-holds put-damaged-line-requires add-line loop-less loop-again put-trailing-requires same-length same-length-2 returns)
+put-damaged-spec = tie.close (tie.spec Inv-loop μ-loop unterminated-line-requires loads-requires plus-requires lesser-requires plus-requires-2 loop-holds put-damaged-line-requires add-line loop-less loop-again put-trailing-requires same-length same-length-2 returns)

@@ -4,10 +4,10 @@ use mathlib.Core.List.{List}
 use Prim.Native.Nat.{ℕ}
 use lib.ListN.{replicate}
 use lib.Seq.{length-take-le}
-use Rattle.sheet.proofs.ReaderLaws.{sheet-room, due-room, due-is}
 use native.Mathlib.Omega.{arith}
 use borrow.Author.Needs.{needs}
 use Rattle.sheet.proofs.read.belongs.Statement.{statement}
+use Rattle.sheet.proofs.WriteLaws.{sheet-room, due-room, due-is}
 use Rattle.sheet.proofs.read.belongs.Tie as tie
 
 -- the array before the sheet is written
@@ -38,14 +38,14 @@ array-share-prefix-due : tie.Need-array-share-prefix-due
 array-share-prefix-due c =
     let a = c .before .before .before .before .before in
     due-room (a .args .book) (a .pre .0) (a .args .picks) (a .pre .1) (a .args .trials) _ zeros _ (omega arith)
-    (c .before .before .before .sheet-length .ensures) (c .before .write-sheet .ensures .1)
+    (c .before .before .before .sheet-length .ensures) (c .before .write-sheet .ensures .leaves)
 
 slice-aggregate-same : tie.Need-slice-aggregate-same
 slice-aggregate-same c =
     let a = c .before .before .before .before .before .before in
     sym (length-take-le _ _
     (due-room (a .args .book) (a .pre .0) (a .args .picks) (a .pre .1) (a .args .trials) _ zeros _ (omega arith)
-    (c .before .before .before .before .sheet-length .ensures) (c .before .before .write-sheet .ensures .1)))
+    (c .before .before .before .before .sheet-length .ensures) (c .before .before .write-sheet .ensures .leaves)))
 
 same-requires : tie.Need-same-requires
 same-requires c κs = search needs
@@ -54,7 +54,7 @@ returns : tie.Need-returns
 returns c =
     let a = c .before .before .before .before .before .before .before in
     let due = due-is (a .args .book) (a .pre .0) (a .args .picks) (a .pre .1) (a .args .trials) _ zeros _ (omega arith)
-    (c .before .before .before .before .before .sheet-length .ensures) (c .before .before .before .write-sheet .ensures .1) in
+    (c .before .before .before .before .before .sheet-length .ensures) (c .before .before .before .write-sheet .ensures .leaves) in
     record { same = λ e. c .same .ensures .0 e ∙ due; known = λ e. c .same .ensures .1 (e ∙ sym due) }
 
 pub belongs-spec : {M : Type 1} → statement M

@@ -2,11 +2,11 @@
 use mathlib.Core.Path.{refl}
 use Prim.Native.Nat.{_-_, _≤_}
 use Rattle.model.specs.Values.{problemOf}
-use Rattle.sheet.proofs.ReaderLaws.{ReadUpto, read-start, read-more, read-lost, read-found}
 use borrow.Author.Needs.{needs}
 use native.Mathlib.Omega.{arith}
 use Rattle.model.proofs.HeldLaws.{held-count, held-few}
 use Rattle.sheet.proofs.read.picks_on.Statement.{statement}
+use Rattle.sheet.proofs.ChoiceLaws.{ReadUpto, read-start, read-more, read-lost, read-found}
 use Rattle.sheet.proofs.read.picks_on.Tie as tie
 
 abbrev Inv-loop : tie.InvT-loop

@@ -1,0 +1,151 @@
+-- The proved table: document 01's starred cases ("Trials at the bench"), the ends of M-102's range, two overloads near M-106's bound, and edges where a
+-- near mistake shows, as one table of facts about the definitions, with one statement covering it. Star n is the n-th star of document 01.
+-- Assumes nothing.
+use mathlib.Core.Path.{_≡_, refl}
+use mathlib.Core.Bool.{Bool, true, false, _&&_}
+use mathlib.Core.List.{List, [], _∷_, map}
+use Prim.Native.Nat.{ℕ, suc, _+_, _*_, _-_}
+use Prim.Native.String.{String, [] as ε, _∷_ as _⸬_}
+use Prim.Native.Char.{code}
+use lib.Dec.{leb, ltb, eqb}
+use lib.IntN.{ℤ, pos, negℤ}
+use lib.ListN.{length}
+use Rattle.model.specs.Lists.{upto, all, sameLists}
+use Rattle.model.specs.Frames.{isDigit, digitValue, digit, valueFrom, field, digits, signed, unsigned, lineLength}
+use Rattle.model.specs.Refusals.{Result, refused, done, first}
+use Rattle.model.specs.Book.{Problem, optionStart, headerRules, someExceeds, loadRules, readLoads, readBook}
+use Rattle.model.specs.Choice.{square}
+use Rattle.model.specs.Grid.{stepFor, slotsOf, floorDiv, bestAdmitted, plan}
+use Rattle.model.specs.Trials.{cells, sameℤ, reachedCount, trialsUpto, trials}
+use Rattle.model.specs.Sheet.{numbersOf, firstLine, slotLine, slotLines, sheetBytes}
+use Rattle.model.specs.Calls.{sizeRules, fittingBook, choiceOr, planSheet, plannerResult}
+use Rattle.model.specs.Quick.{optionOne, sizeOf, takeIfFits, quickChoice, quickSheet, quickResult}
+use Rattle.model.specs.Program.{refusalLine, printed, programOutput}
+use Rattle.model.specs.Demand.{apparentSquaredIn, closerBound}
+use Rattle.model.specs.Rounding.{floorBySum}
+
+abbrev pub bytesOf : String → List ℕ
+bytesOf ε = []
+bytesOf (c ⸬ s) = code c ∷ bytesOf s
+
+-- a row of the table
+pub data Row : Type 0 where
+  -- the program prints this for a book
+  prints : String → String → Row
+  -- the quick planner, printed in the same way
+  quickPrints : String → String → Row
+  -- the book is read
+  reads : String → Row
+  -- N, d and S have the step L
+  steps : ℕ → ℕ → ℕ → ℕ → Row
+  -- a power and a step L have a grid value, by document 01's sentence and by M-102's arithmetic
+  rounds : ℤ → ℕ → ℤ → Row
+  -- the trials of a book, load by load: what each load adds to those before it
+  tries : String → List ℕ → Row
+  -- in each slot of a book's plan, P² + Q² is x, (1 + m/d)²S² is y, and x ≤ y, for m, x and y in this order
+  carries : String → ℕ → ℕ → ℕ → Row
+  -- the program prints this for a book, and in each slot of that sheet 4d²(P² + Q²) is above (2d + 2)²S², and not above M-106's (2d + 3)²S²
+  overloads : String → String → Row
+
+abbrev printsFor : String → String → Bool
+printsFor book out = sameLists eqb (programOutput (bytesOf book)) (bytesOf out)
+
+-- the book is read, and the test holds of it
+abbrev readWith : (Problem → Bool) → String → Bool
+readWith test book = passes (readBook (bytesOf book))
+  where
+    passes : Result Problem → Bool
+    passes (refused r number) = false
+    passes (done b) = test b
+
+-- the test holds of d, S and the plan's P² + Q², in each slot
+abbrev inSlots : (ℕ → ℕ → ℕ → Bool) → Problem → Bool
+inSlots test b = all (λ s. test (b .fineness) (s .limit) (apparentSquaredIn (s .place) (choiceOr (plan b)))) (slotsOf b)
+
+-- what `overloads` says of a slot, of d, S and z = P² + Q²
+abbrev nearBound : ℕ → ℕ → ℕ → Bool
+nearBound d s z = ltb (square (2 * d + 2) * square s) (4 * square d * z) && leb (4 * square d * z) (closerBound d s)
+
+-- the trials that load k + 1 adds
+abbrev triesOf : Problem → ℕ → ℕ
+triesOf b k = trialsUpto (slotsOf b) (b .loads) (suc k) - trialsUpto (slotsOf b) (b .loads) k
+
+unfoldable pub holds : Row → Bool
+holds (prints book out) = printsFor book out
+holds (quickPrints book out) = sameLists eqb (printed (quickResult (bytesOf book) 4096)) (bytesOf out)
+holds (reads book) = readWith (λ b. true) book
+holds (steps n d s l) = eqb (stepFor n d s) l
+holds (rounds x l g) = sameℤ (floorDiv x l) g && sameℤ (floorBySum x l) g
+holds (tries book each) = readWith (λ b. sameLists eqb (map (triesOf b) (upto (length (b .loads)))) each) book
+holds (carries book m x y) = readWith (inSlots (λ d s z. eqb z x && eqb (square (d + m) * square s) (square d * y) && leb x y)) book
+holds (overloads book out) = printsFor book out && readWith (inSlots nearBound) book
+
+unfoldable pub rows : List Row
+rows =
+    -- What is soon computed, edges and M-106 stand first: the checker shows what a table computes to only up to a number of steps, and a near mistake is
+    -- to show as false.
+    -- star 5: S = 23 and S = 24
+    steps 3 4 23 1
+    ∷ steps 3 4 24 2
+    -- star 6: L = 50
+    ∷ rounds (negℤ (pos 1)) 50 (negℤ (pos 1))
+    ∷ rounds (negℤ (pos 50)) 50 (negℤ (pos 1))
+    ∷ rounds (negℤ (pos 51)) 50 (negℤ (pos 2))
+    -- M-102: the least and the greatest Q, at the least and the greatest L
+    ∷ rounds (negℤ (pos 32768)) 1 (negℤ (pos 32768))
+    ∷ rounds (negℤ (pos 32768)) 65535 (negℤ (pos 1))
+    ∷ rounds (pos 32767) 1 (pos 32767)
+    ∷ rounds (pos 32767) 65535 (pos 0)
+    -- an edge, two faults on one line: a byte G and kind 03, and 2 comes before 3
+    ∷ prints "030G\n" "FF020001\n"
+    -- an edge, the same: 5 slots and no limit, and 4 comes before 5
+    ∷ prints "0105010100000064\n" "FF040001\n"
+    -- an edge, limits 100 and 30: load 2 draws 50 in slot 2 and stands. Against the mean of the limits, 65, both loads would run
+    ∷ prints "01020201000000640064001E\n0201000500320000000A0000\n02010004000A000000320000\n"
+    "0400000005000000060100\n0500000032000000000064\n050000000A00000000001E\n"
+    -- an edge, R = 3: loads 1 and 2, of P = 2, have a = 4 together, which is not counted before load 3
+    ∷ tries "01010301000000640003\n0201000100020000\n0201000100020000\n0201000100010000\n" (2 ∷ 4 ∷ 4 ∷ [])
+    -- M-106, d = 1: 222.3 % of S in both slots, where M-106 has 250 % and 2 in place of 3 has 200 %. Levels 2 and 3 are worth more, but slot 2 does not
+    -- admit level 2, nor slot 1 level 3
+    ∷ overloads "010201010000006400640064\n0203000300C7006300C70063000900C7006300C80000000900C8000000C70063\n"
+    "04000000030000000401\n05000000C7000000630064\n05000000C7000000630064\n"
+    -- M-106, d = 8, examples/close.book: 116.7 % of S, rounded up, where M-106 has 118.75 % and 2 in place of 3 has 112.5 %
+    ∷ overloads "010103080000006414B9\n0201003C08A1060A\n0201002806E70450\n0201001904500373\n"
+    "040000007D0000000E010101\n05000013D800000DCD14B9\n"
+    -- document 01's book and sheet
+    ∷ prints "0101030400000064000A\n0201000500050005\n020100050004FFFC\n0201000400040000\n"
+    "040000000A0000000E010100\n050000000900000001000A\n"
+    -- star 1, of that book: L = 1; 2 + 4 + 8 trials; 82 ≤ 100, of the limit itself
+    ∷ steps 3 4 10 1
+    ∷ tries "0101030400000064000A\n0201000500050005\n020100050004FFFC\n0201000400040000\n" (2 ∷ 4 ∷ 8 ∷ [])
+    ∷ carries "0101030400000064000A\n0201000500050005\n020100050004FFFC\n0201000400040000\n" 0 82 100
+    -- star 2: the quick planner
+    ∷ quickPrints "0101030400000064000A\n0201000500050005\n020100050004FFFC\n0201000400040000\n"
+    "040000000900000003000101\n0500000008FFFFFFFC000A\n"
+    -- star 3: budget 14
+    ∷ prints "010103040000000E000A\n0201000500050005\n020100050004FFFC\n0201000400040000\n"
+    "040000000A0000000E010100\n050000000900000001000A\n"
+    -- star 4: budget 13
+    ∷ prints "010103040000000D000A\n0201000500050005\n020100050004FFFC\n0201000400040000\n" "FF0C0000\n"
+    -- star 7: both loads of (99, 0) run; their sum 198 ≤ 300, which is 1 + 2/d times the limit
+    ∷ prints "01010201000000640064\n0201000300630000\n0201000300630000\n"
+    "0400000006000000060101\n05000000C6000000000064\n"
+    ∷ carries "01010201000000640064\n0201000300630000\n0201000300630000\n" 2 (square 198) (square 300)
+    -- star 8: the same with (100, 0)
+    ∷ prints "01010201000000640064\n0201000300640000\n0201000300640000\n"
+    "0400000003000000060100\n0500000064000000000064\n"
+    -- star 9: S = 0
+    ∷ prints "01010201000000640000\n0201000100000000\n0201000100010000\n"
+    "0400000001000000040100\n0500000000000000000000\n"
+    -- star 10: empty input
+    ∷ prints "" "FF010001\n"
+    -- star 11: |Q| = P is read, |Q| = P + 1 is refused
+    ∷ reads "01010101000000640064\n020100010004FFFC\n"
+    ∷ prints "01010101000000640064\n020100010004FFFB\n" "FF070002\n"
+    ∷ []
+
+pub table-holds : all holds rows ≡ true
+unfolding holds rows programOutput refusalLine plannerResult planSheet fittingBook sizeRules
+    readBook readLoads headerRules loadRules someExceeds optionStart first isDigit digitValue digit valueFrom field digits signed unsigned lineLength
+    slotsOf plan bestAdmitted cells trials reachedCount sheetBytes firstLine slotLines slotLine numbersOf quickResult quickSheet quickChoice takeIfFits sizeOf optionOne
+table-holds = refl

@@ -1,0 +1,44 @@
+-- Document 01's bounds and the sizes that follow from them, each number once. The code has the same numbers as constants of the declared types.
+use Prim.Native.Nat.{ℕ, _*_, _+_}
+
+-- "T is the number of slots (quarter hours), 1 to 4. N is the number of loads, 1 to 24. d, the fineness, is 1 to 64. o, the options (levels) of a
+-- load, is 1 to 3."
+abbrev pub mostSlots : ℕ
+mostSlots = 4
+
+abbrev pub mostLoads : ℕ
+mostLoads = 24
+
+abbrev pub mostFineness : ℕ
+mostFineness = 64
+
+abbrev pub mostOptions : ℕ
+mostOptions = 3
+
+-- "a number c from 0 to its o"
+abbrev pub mostSettings : ℕ
+mostSettings = mostOptions + 1
+
+-- the powers of a load: one for each setting and slot
+abbrev pub mostPowers : ℕ
+mostPowers = mostSettings * mostSlots
+
+-- "cells over 1,048,576"
+abbrev pub mostCells : ℕ
+mostCells = 1_048_576
+
+-- the rows of a table with so many cells: a slot has R + 1 values of a, and at least twice as many of b, as N is at least 1; so twice the square of the
+-- rows is at most the cells, and 2 × 724² ≤ 1,048,576 < 2 × 725²
+abbrev pub mostRows : ℕ
+mostRows = 724
+
+-- the bytes of the longest sheet: 19 + 2N + 23T
+abbrev pub mostSheet : ℕ
+mostSheet = 19 + 2 * mostLoads + 23 * mostSlots
+
+-- "The program takes the first 4,096 bytes of its input as the book", "lends 6,144 words"
+abbrev pub programBytes : ℕ
+programBytes = 4096
+
+abbrev pub programWords : ℕ
+programWords = 6144

@@ -1,0 +1,80 @@
+-- What is printed, from the planner's answer and the buffer that it was lent.
+-- Assumes nothing.
+use mathlib.Core.Path.{_≡_, sym, ap, ap₂, _∙_}
+use mathlib.Core.Bool.{cond}
+use mathlib.Core.List.{List, _++_}
+use Prim.Native.Nat.{ℕ, zero, suc, _+_, _-_, _≤_}
+use native.Mathlib.Nat.{sub-zero, suc-sub-suc}
+use native.Mathlib.Omega.{arith}
+use lib.ListN.{length, drop, set, replicate, length-append}
+use borrow.Author.Tests.{ne-eqb}
+use Rattle.model.specs.declared.Answer.{Answer}
+use Rattle.model.specs.Frames.{digits}
+use Rattle.model.specs.Refusals.{Result, refused, done, numberOf}
+use Rattle.model.specs.Answers.{Output, Writes}
+use Rattle.model.specs.Sheet.{lf}
+use Rattle.model.specs.Program.{refusalLine, printed}
+use Rattle.model.proofs.FrameLaws.{length-digits}
+use Rattle.model.proofs.RefusalLaws.{number-some}
+use Rattle.hex.specs.Written.{written}
+use Rattle.hex.proofs.WrittenLaws.{length-written, write-on, write-byte, written-start}
+use Rattle.print.specs.declared.Printed.{Printed}
+use Rattle.print.specs.Printing.{printedValue, printedAs}
+
+-- three fields and an LF
+pub refusal-written : (l l₁ l₂ l₃ : List ℕ) (number line : ℕ) → l₁ ≡ written l 0 (digits 2 255) → l₂ ≡ written l₁ 2 (digits 2 number)
+    → l₃ ≡ written l₂ 4 (digits 4 line) → 9 ≤ length l → set l₃ 8 10 ≡ written l 0 (refusalLine number line)
+unfolding refusalLine
+refusal-written l l₁ l₂ l₃ number line e₁ e₂ e₃ h =
+    let a = digits 2 255 in
+    let b = digits 2 number in
+    let d = digits 4 line in
+    let na : length a ≡ 2 = length-digits 2 255 in
+    let nb : length b ≡ 2 = length-digits 2 number in
+    let nd : length d ≡ 4 = length-digits 4 line in
+    let w₂ : l₂ ≡ written l 0 (a ++ b) = e₂ ∙ write-on l l₁ 0 2 a b e₁ (omega arith) (omega arith) in
+    let n₂ : length (a ++ b) ≡ 4 = length-append a b ∙ (omega arith) in
+    let w₃ : l₃ ≡ written l 0 ((a ++ b) ++ d) = e₃ ∙ write-on l l₂ 0 4 (a ++ b) d w₂ (omega arith) (omega arith) in
+    let n₃ : length ((a ++ b) ++ d) ≡ 8 = length-append (a ++ b) d ∙ (omega arith) in
+    let n : length l₃ ≡ length l = ap length w₃ ∙ length-written l 0 ((a ++ b) ++ d) (omega arith) in
+    write-byte l₃ 8 10 (omega arith)
+    ∙ write-on l l₃ 0 8 ((a ++ b) ++ d) lf w₃ (omega arith) (omega arith)
+
+length-refusal : (number line : ℕ) → length (refusalLine number line) ≡ 9
+unfolding refusalLine
+length-refusal number line =
+    let n₁ : length (digits 2 255 ++ digits 2 number) ≡ 4 = omega (arith, length-append (digits 2 255) (digits 2 number), length-digits 2 255, length-digits 2 number) in
+    let n₂ : length ((digits 2 255 ++ digits 2 number) ++ digits 4 line) ≡ 8 = omega (arith, n₁, length-append (digits 2 255 ++ digits 2 number) (digits 4 line), length-digits 4 line) in
+    omega (arith, n₂, length-append ((digits 2 255 ++ digits 2 number) ++ digits 4 line) lf)
+
+abbrev zeros : ℕ → List ℕ
+zeros m = replicate m 0
+
+zeros-left : (n m : ℕ) → drop n (zeros m) ≡ zeros (m - n)
+zeros-left zero m = ap zeros (sym (sub-zero m))
+zeros-left (suc n) zero = let e : 0 ≡ 0 - suc n = omega arith in ap zeros e
+zeros-left (suc n) (suc m) = zeros-left n m ∙ ap zeros (sym (suc-sub-suc m n))
+
+-- of a call that was lent zeros, what is printed is its sheet, or the line of its refusal
+pub printed-is : (x : Result Output) (before buffer : List ℕ) (a : Answer) → before ≡ zeros 159 → Writes x before buffer a
+    → printedAs a buffer ≡ printedValue (printed x)
+unfolding printedAs printedValue
+printed-is (refused r line) before buffer a e w =
+    ap₂ printedAs (w .answers) (w .leaves ∙ e)
+    ∙ ap (λ t. cond t (record { bytes = zeros 159; length = 0 }) (record { bytes = written (zeros 159) 0 (refusalLine (numberOf r) line); length = 9 }))
+    (ne-eqb (numberOf r) 0 (number-some r))
+    ∙ (λ i. record { bytes = bytes i; length = sym (length-refusal (numberOf r) line) i })
+  where
+    bytes : written (zeros 159) 0 (refusalLine (numberOf r) line) ≡ refusalLine (numberOf r) line ++ zeros (159 - length (refusalLine (numberOf r) line))
+    bytes =
+        written-start (zeros 159) (refusalLine (numberOf r) line)
+        ∙ ap (λ l. refusalLine (numberOf r) line ++ l) (zeros-left (length (refusalLine (numberOf r) line)) 159)
+printed-is (done s) before buffer a e w =
+    ap₂ printedAs (w .answers) (w .leaves ∙ ap (λ l. s .bytes ++ drop (length (s .bytes)) l) e)
+    ∙ (λ i. record { bytes = s .bytes ++ zeros-left (length (s .bytes)) 159 i; length = length (s .bytes) })
+
+-- the bytes that are printed lie within the value
+pub printed-fits : (v : Printed) (out : List ℕ) → v ≡ printedValue out → v .length ≤ length (v .bytes)
+unfolding printedValue
+printed-fits v out e =
+    omega (arith, ap (λ (x : Printed). x .length) e, ap (λ (x : Printed). length (x .bytes)) e, length-append out (zeros (159 - length out)))

@@ -1,0 +1,142 @@
+-- The sheet that the code writes is the one of the definitions.
+-- Assumes nothing.
+use Prim.Native.Nat.{ℕ, _+_, _*_, _^_, _≤_, _<_}
+use mathlib.Core.Path.{_≡_, sym, ap, ap₂, _∙_}
+use mathlib.Core.List.{List, [], _++_, map, append-nil}
+use mathlib.Core.Option.{none}
+use native.Mathlib.Nat.{zero-add}
+use native.Mathlib.Omega.{arith}
+use lib.IntN.{subℕ}
+use lib.ListN.{length, getD, take, drop, length-append, length-take, drop-of-length-le}
+use lib.Seq.{take-at}
+use Rattle.model.specs.declared.Book.{Book}
+use Rattle.model.specs.Lists.{upto}
+use Rattle.model.specs.Frames.{unsigned}
+use Rattle.model.specs.Refusals.{done}
+use Rattle.model.specs.Answers.{bufferAfter}
+use Rattle.model.specs.Book.{Setting, Problem}
+use Rattle.model.specs.Choice.{Choice, IsChoice, worthOf, sumIn, noSetting}
+use Rattle.model.specs.Grid.{slotsOf}
+use Rattle.model.specs.Sheet.{slotLines, sheetBytes, sheetLength, sheetOf}
+use Rattle.model.specs.Valid.{Labelled, ValidBook}
+use Rattle.model.specs.Values.{Held, Picked, settingOf, choiceOf, problemOf}
+use Rattle.model.proofs.ListLaws.{every-at}
+use Rattle.model.proofs.UptoLaws.{getD-upto}
+use Rattle.model.proofs.PlanLaws.{chosen-length}
+use Rattle.model.proofs.SheetLaws.{sheet-length}
+use Rattle.model.proofs.ValueLaws.{numbered-at}
+use Rattle.model.proofs.RaisedLaws.{raised-less}
+use Rattle.model.proofs.HeldLaws.{held-valid, held-count, held-slots, held-four, held-limit}
+use Rattle.hex.specs.Written.{written}
+use Rattle.hex.proofs.WrittenLaws.{written-start}
+use Rattle.sums.specs.declared.Sums.{Sums}
+use Rattle.sums.specs.Sums.{sumsValue}
+use Rattle.sums.proofs.SumsLaws.{reactive-sum, sums-active, sums-reactive, choice-small, choice-sums}
+use Rattle.sums.proofs.PickLaws.{picked-choice}
+use Rattle.sheet.specs.Lines.{firstBytes, slotsBytes}
+use Rattle.sheet.proofs.LineLaws.{first-is, slots-are}
+
+-- ---- the sheet of a choice whose numbers are in an array
+
+module _ (b : Problem) (picks : List ℕ) (valid : ValidBook b) (picked : Picked b picks) where
+  -- a setting's number is its place
+  pub number-at : (k : ℕ) → k < length (b .loads) → getD (choiceOf b picks) k noSetting .number ≡ getD picks k 0
+  unfolding choiceOf
+  number-at k l =
+      let vs = getD (b .loads) k [] in
+      ap (λ (v : Setting). v .number) (getD-upto (λ i. settingOf (getD (b .loads) i []) (getD picks i 0)) (length (b .loads)) k noSetting l)
+      ∙ sym (numbered-at 0 vs (every-at Labelled (b .loads) [] (valid .loads .labels) k l .numbered) (getD picks k 0) (picked k l))
+      ∙ zero-add (getD picks k 0)
+
+  pub choice-length : length (choiceOf b picks) ≡ length (b .loads)
+  choice-length = chosen-length (b .loads) (choiceOf b picks) (picked-choice b picks valid picked)
+
+module _ (book : Book) (h : Held book) (picks : List ℕ) (picked : Picked (problemOf book) picks) where
+  abbrev b : Problem
+  b = problemOf book
+
+  abbrev c : Choice
+  c = choiceOf (problemOf book) picks
+
+  chosen : IsChoice (b .loads) c
+  chosen = picked-choice b picks (held-valid book h) picked
+
+  count-is : length c ≡ book .count
+  count-is = choice-length b picks (held-valid book h) picked ∙ sym (held-count book h)
+
+  pub reactive-room : (sums : Sums) → sums ≡ sumsValue c → (s : ℕ) → s < 4 → getD (sums .reactives) s 0 ≤ 2 ^ 31
+  reactive-room sums e s l =
+      omega (arith, ap (λ (x : Sums). getD (x .reactives) s 0) e, choice-sums b (held-valid book h) c chosen .reactive s l)
+
+  module _ (sums : Sums) (words : List ℕ) (e : sums ≡ sumsValue c)
+      (w : words ≡ map (λ s. unsigned 32 (subℕ (getD (sums .reactives) s 0) (32768 * book .count))) (upto 4)) where
+    active-is : (s : ℕ) → s < 4 → getD (sums .actives) s 0 ≡ sumIn s c .p
+    active-is s l = ap (λ (x : Sums). getD (x .actives) s 0) e ∙ sums-active c s l
+
+    reactive-is : (s : ℕ) → s < 4 → subℕ (getD (sums .reactives) s 0) (32768 * book .count) ≡ sumIn s c .q
+    reactive-is s l =
+        ap₂ (λ x n. subℕ x (32768 * n)) (ap (λ (x : Sums). getD (x .reactives) s 0) e ∙ sums-reactive c s l) (sym count-is)
+        ∙ raised-less (length c) (sumIn s c .q) (reactive-sum c (choice-small b (held-valid book h) c chosen) s)
+
+    word-at : (s : ℕ) → s < 4 → getD words s 0 ≡ unsigned 32 (sumIn s c .q)
+    word-at s l =
+        ap (λ x. getD x s 0) w
+        ∙ getD-upto (λ i. unsigned 32 (subℕ (getD (sums .reactives) i 0) (32768 * book .count))) 4 s 0 l
+        ∙ ap (unsigned 32) (reactive-is s l)
+
+    slots-lines : slotsBytes (sums .actives) words (book .limits) (book .slots) ≡ slotLines (slotsOf b) c
+    unfolding slotsOf
+    slots-lines =
+        ap (slotsBytes (sums .actives) words (book .limits)) (held-slots book h)
+        ∙ sym
+        (slots-are (length (b .loads)) (b .fineness) c (sums .actives) words (book .limits) (b .limits)
+        (λ s l. active-is s (four s l)) (λ s l. word-at s (four s l)) (λ s l. held-limit book h s (four s l)))
+      where
+        four : (s : ℕ) → s < length (b .limits) → s < 4
+        four s l = omega (arith, held-slots book h, held-four book h)
+
+    -- the code's numbers give the sheet of the definitions
+    pub sheet-bytes-are : (worth trials : ℕ) → worth ≡ worthOf c
+        → firstBytes picks (book .count) worth trials ++ slotsBytes (sums .actives) words (book .limits) (book .slots) ≡ sheetBytes b c trials
+    unfolding sheetBytes
+    sheet-bytes-are worth trials f =
+        ap₂ {C = List ℕ} (λ x y. x ++ y)
+        (ap (λ v. firstBytes picks (book .count) v trials) f
+        ∙ first-is c picks (book .count) count-is (λ k l. number-at b picks (held-valid book h) picked k (omega (arith, held-count book h))) trials)
+        slots-lines
+
+    -- and leave it in the buffer
+    pub sheet-left : (worth trials : ℕ) (l l′ : List ℕ) → worth ≡ worthOf c
+        → l′ ≡ written l 0 (firstBytes picks (book .count) worth trials ++ slotsBytes (sums .actives) words (book .limits) (book .slots))
+        → l′ ≡ bufferAfter (done (sheetOf b c trials)) l
+    sheet-left worth trials l l′ f g =
+        g ∙ ap (written l 0) (sheet-bytes-are worth trials f) ∙ written-start l (sheetBytes b c trials)
+
+  pub bytes-length : (trials : ℕ) → length (sheetBytes b c trials) ≡ sheetLength b
+  bytes-length trials = sheet-length b c trials (choice-length b picks (held-valid book h) picked)
+
+-- no sheet has more than 159 bytes
+pub sheet-room : (book : Book) (h : Held book) (n : ℕ) → n ≡ sheetLength (problemOf book) → n ≤ 159
+sheet-room book h n e = omega (arith, held-valid book h .slots-few, held-valid book h .loads-few)
+
+-- a buffer of which as many bytes were lent as the sheet has
+module _ (book : Book) (h : Held book) (picks : List ℕ) (picked : Picked (problemOf book) picks) (trials n : ℕ) (l last : List ℕ)
+    (room : 159 ≤ length l) (all : n ≡ sheetLength (problemOf book))
+    (e : last ≡ bufferAfter (done (sheetOf (problemOf book) (choiceOf (problemOf book) picks) trials)) (take n l)) where
+  abbrev due : List ℕ
+  due = sheetBytes (problemOf book) (choiceOf (problemOf book) picks) trials
+
+  due-length : length due ≡ n
+  due-length = bytes-length book h picks picked trials ∙ sym all
+
+  last-is : last ≡ due
+  last-is =
+      let none : drop (length due) (take n l) ≡ []
+      = drop-of-length-le (take n l) {i = length due} (omega (arith, length-take n l, due-length)) in
+      e ∙ ap (λ r. due ++ r) none ∙ append-nil due
+
+  pub due-room : n ≤ length (last ++ drop n l)
+  due-room = omega (arith, length-append last (drop n l), ap length last-is, due-length)
+
+  pub due-is : take n (last ++ drop n l) ≡ due
+  due-is = take-at last (drop n l) n (ap length last-is ∙ due-length) ∙ last-is
