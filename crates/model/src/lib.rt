@@ -72,10 +72,10 @@ pub struct Reading {
 }
 
 impl Load {
-    // Standing and at most three options; and a power of each setting in each slot.
-    pub const SETTINGS: usize = 4;
+    // Standing and the options; and a power of each setting in each slot.
+    pub const SETTINGS: usize = Book::OPTIONS + 1;
 
-    pub const POWERS: usize = 16;
+    pub const POWERS: usize = Load::SETTINGS * Book::SLOTS;
 
     pub fn fresh() -> Load
         ensures { λ r. ⌜ r ≡ loadValue [] ⌝ }
@@ -101,7 +101,7 @@ impl Book {
 
     pub const CELLS: usize = 1048576;
 
-    pub const SHEET: usize = 159;
+    pub const SHEET: usize = 19 + 2 * Book::LOADS + 23 * Book::SLOTS;
 
     pub fn fresh() -> Book
         ensures { λ r. ⌜ r ≡ freshBook ⌝ }

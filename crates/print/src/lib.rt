@@ -8,7 +8,7 @@ ghost use Rattle.model.specs.Program.{refusalLine};
 ghost use Rattle.hex.specs.Written.{written};
 ghost use Rattle.print.specs.Printing.{printedAs};
 
-// The first `length` of these bytes are printed, and the others are 0. No sheet is longer.
+// The first `length` of these bytes are printed. No sheet is longer than the array.
 pub struct Printed {
     pub bytes: [u8; Book::SHEET],
     pub length: usize,
