@@ -19,6 +19,7 @@ use Rattle.model.specs.Refusals.{first}
 use Rattle.model.specs.Book.{noPower, kindRule, slotCount, loadCount, finenessIn, headerRules, optionCount, optionStart, powerAt, optionAt, options, settings, loadRules}
 use Rattle.model.specs.Choice.{powerIn, noSetting}
 use Rattle.model.specs.Values.{raised, settingOf, powerOf}
+use Rattle.model.specs.Bounds.{mostLoads, mostFineness}
 use Rattle.model.proofs.ListLaws.{both-true, either-false, within-is}
 use Rattle.model.proofs.IntegerLaws.{split, sub-neg}
 use Rattle.model.proofs.RefusalLaws.{first-passed}
@@ -68,11 +69,11 @@ header-line line e =
       long = eqb-true _ _ (not-false _ (n .1 .1 .1 .0));
     }
 
-pub header-loads : (line : List ℕ) → first (headerRules line) ≡ Passed → loadCount line ≤ 24
+pub header-loads : (line : List ℕ) → first (headerRules line) ≡ Passed → loadCount line ≤ mostLoads
 unfolding headerRules
 header-loads line e =
-    within-is 1 24 (loadCount line)
-    (both-true (within 1 24 (loadCount line)) (within 1 64 (finenessIn line)) (not-false _ (first-passed (headerRules line) e .1 .1 .1 .1 .0)) .0) .1
+    within-is 1 mostLoads (loadCount line)
+    (both-true (within 1 mostLoads (loadCount line)) (within 1 mostFineness (finenessIn line)) (not-false _ (first-passed (headerRules line) e .1 .1 .1 .1 .0)) .0) .1
 
 pub load-line : (t : ℕ) (line : List ℕ) → t ≤ 4 → first (loadRules t line) ≡ Passed → LoadLine t (optionCount line) line
 unfolding loadRules

@@ -16,6 +16,7 @@ use Rattle.model.specs.declared.Load.{Load}
 use Rattle.model.specs.declared.Refusal.{Refusal}
 use Rattle.model.specs.declared.Refusal.the-variants.{Unterminated, TrailingBytes}
 use Rattle.model.specs.Lists.{upto}
+use Rattle.model.specs.Bounds.{mostLoads}
 use Rattle.model.specs.Frames.{field, lineLength, lineOf, afterLine}
 use Rattle.model.specs.Refusals.{Result, refused, done, first, checked, andThen}
 use Rattle.model.specs.Book.{Settings, Problem, headerRules, readBook, slotCount, loadCount, finenessIn, budgetIn, limitsIn, problem, settings, lineRule, loadRules, endRules, readLoads}
@@ -63,10 +64,10 @@ joined-more before vs (refused r number) = refl
 joined-more before vs (done loads) = ap {B = Result (List Settings)} done (sym (append-assoc before (vs ∷ []) loads))
 
 -- one load more in the array
-stored-more : (before : List Settings) (vs : Settings) (k : ℕ) (l : Load) → length before ≡ k → k < 24 → l ≡ loadValue vs
+stored-more : (before : List Settings) (vs : Settings) (k : ℕ) (l : Load) → length before ≡ k → k < mostLoads → l ≡ loadValue vs
     → set (loadsValue before) k l ≡ loadsValue (before ++ (vs ∷ []))
 stored-more before vs k l n h e =
-    set-upto (λ j. loadValue (getD before j [])) (λ j. loadValue (getD (before ++ (vs ∷ [])) j [])) 24 k l h
+    set-upto (λ j. loadValue (getD before j [])) (λ j. loadValue (getD (before ++ (vs ∷ [])) j [])) mostLoads k l h
     (e ∙ ap loadValue (sym (getD-at before vs [] [] k n)))
     (λ j q. ap loadValue (other j q (split j k)))
   where
@@ -83,7 +84,7 @@ pub record Read (t count : ℕ) (s : List ℕ) (at k : ℕ) (loads : List Load) 
   pub stored : loads ≡ loadsValue before
   pub whole : readLoads t count 2 s ≡ joined before (readLoads t (count - k) (k + 2) (drop at s))
 
-pub read-none : (t count : ℕ) (s : List ℕ) → Read t count s 0 0 (replicate 24 (loadValue []))
+pub read-none : (t count : ℕ) (s : List ℕ) → Read t count s 0 0 (replicate mostLoads (loadValue []))
 read-none t count s =
     record { before = []; many = refl; stored = refl; whole = sym (joined-none _ ∙ ap (λ n. readLoads t n 2 s) (sub-zero count)) }
 
@@ -101,7 +102,7 @@ module _ (t count : ℕ) (s : List ℕ) (at k : ℕ) (loads : List Load) (h : Re
       → readLoads t count 2 s ≡ refused r (k + 2)
   read-refused r l b e = next l ∙ ap (joined (h .before)) (line-refused t (count - (k + 1)) (k + 2) (drop at s) r b e)
 
-  pub read-more : (end : ℕ) (load : Load) → k < count → count ≤ 24 → lineLength (drop at s) < length (drop at s)
+  pub read-more : (end : ℕ) (load : Load) → k < count → count ≤ mostLoads → lineLength (drop at s) < length (drop at s)
       → first (loadRules t (lineOf (drop at s))) ≡ Passed → load ≡ loadValue (settings t (lineOf (drop at s)))
       → drop end s ≡ afterLine (drop at s) → Read t count s end (k + 1) (set loads k load)
   read-more end load l few b e v a =

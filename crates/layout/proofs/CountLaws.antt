@@ -8,6 +8,7 @@ use native.Mathlib.Numerals.{add-one}
 use native.Mathlib.Omega.{arith}
 use lib.ListN.{length, getD, drop, drop-of-length-le}
 use lib.Seq.{drop-cons}
+use Rattle.model.specs.Bounds.{mostCells}
 use Rattle.model.specs.Grid.{Slot}
 use Rattle.model.specs.Trials.{gridTop}
 use Rattle.model.specs.Index.{widthOf, pairsAt, cellCount}
@@ -35,14 +36,14 @@ module _ (slots : List Slot) (n : ℕ) where
       ∙ ap (λ ss. product * cellCount 1 ss) (sym (drop-cons slots t noSlot l))
       ∙ e
 
-  pub counted-over : (t product : ℕ) → 1048576 < product → Counted t product → Capped n 1048577
+  pub counted-over : (t product : ℕ) → mostCells < product → Counted t product → Capped n (mostCells + 1)
   counted-over t product l e =
       record {
         exact = λ k. absurd (omega arith);
         over = λ k. omega (arith, mul-le-mul-left product (cells-some (drop t slots)));
       }
 
-  pub counted-all : (t product : ℕ) → length slots ≤ t → product ≤ 1048576 → Counted t product → Capped n product
+  pub counted-all : (t product : ℕ) → length slots ≤ t → product ≤ mostCells → Counted t product → Capped n product
   counted-all t product l few e =
       let whole : product * 1 ≡ n = ap (λ ss. product * cellCount 1 ss) (sym (drop-of-length-le slots l)) ∙ e in
       record { exact = λ k. omega arith; over = λ k. absurd (omega arith) }

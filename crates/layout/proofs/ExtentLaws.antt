@@ -7,6 +7,7 @@ use native.Mathlib.Nat.{le-refl, le-trans, mul-le-mul, mul-le-mul-left, mul-le-m
 use native.Mathlib.Omega.{arith}
 use lib.ListN.{length, getD, drop, drop-of-length-le}
 use lib.Seq.{drop-cons}
+use Rattle.model.specs.Bounds.{mostCells}
 use Rattle.model.specs.Grid.{Slot, gridsOf}
 use Rattle.model.specs.Trials.{gridTop}
 use Rattle.model.specs.Index.{widthOf, rowCount, columnCount, columnIndex, cellCount}
@@ -33,11 +34,11 @@ columns-drop (s ∷ slots) (suc t) =
     let k : columnCount 1 slots * 1 ≤ columnCount 1 slots * widthOf 1 s = mul-le-mul-left (columnCount 1 slots) h in
     le-trans (columns-drop slots t) (subst (λ n. n ≤ columnCount 1 slots * widthOf 1 s) (omega arith) k)
 
-module _ (slots : List Slot) (fits : cellCount 1 slots ≤ 1048576) (t : ℕ) where
-  pub rows-fit : rowCount (drop t slots) ≤ 1048576
+module _ (slots : List Slot) (fits : cellCount 1 slots ≤ mostCells) (t : ℕ) where
+  pub rows-fit : rowCount (drop t slots) ≤ mostCells
   rows-fit = omega (arith, rows-drop slots t, cells-area 1 slots, mul-le-mul-left (rowCount slots) (columns-some slots))
 
-  pub columns-fit : columnCount 1 (drop t slots) ≤ 1048576
+  pub columns-fit : columnCount 1 (drop t slots) ≤ mostCells
   columns-fit = omega (arith, columns-drop slots t, cells-area 1 slots, mul-le-mul-right (columnCount 1 slots) (rows-some slots))
 
 -- from slot t on

@@ -16,6 +16,7 @@ use Rattle.model.specs.Trials.{cells}
 use Rattle.model.specs.Valid.{Numbered, Labelled, SettingSmall, SettingBelow}
 use Rattle.model.specs.Values.{Held, settingOf, problemOf}
 use Rattle.model.specs.Choice.{noSetting}
+use Rattle.model.specs.Bounds.{mostLoads, mostCells}
 use Rattle.model.proofs.ListLaws.{every-at}
 use Rattle.model.proofs.AdmissionLaws.{slots-for}
 use Rattle.model.proofs.IndexLaws.{cells-one}
@@ -60,7 +61,7 @@ load-held v h k d l =
     }
 
 -- what an option counts in the code
-pub unit-small : (unit k : ℕ) → unit ≡ 4 ^ k → k < 24 → unit ≤ 70368744177664
+pub unit-small : (unit k : ℕ) → unit ≡ 4 ^ k → k < mostLoads → unit ≤ 70368744177664
 unit-small unit k e l =
     let four : 0 < 4 = omega arith in
     let few : k ≤ 23 = omega arith in
@@ -85,7 +86,7 @@ tops-in steps tops widths limits t (s ∷ slots) h = (h .0 .1, tops-in steps top
 
 -- THE LAYOUT of a book
 module _ (v : Book) (h : Held v) (x : Slots) (are : SlotsIn 0 (x .steps) (x .tops) (x .widths) (v .limits) 0 (slotsOf (problemOf v))) (n : ℕ)
-    (total : n ≡ cells (problemOf v)) (fits : n ≤ 1048576) (e : Extent) (extended : Extended (slotsOf (problemOf v)) e) (moves : List LoadMoves)
+    (total : n ≡ cells (problemOf v)) (fits : n ≤ mostCells) (e : Extent) (extended : Extended (slotsOf (problemOf v)) e) (moves : List LoadMoves)
     (loads : (k : ℕ) → k < v .count → LoadIs 0 (slotsOf (problemOf v)) k (getD (problemOf v .loads) k []) (movesOf moves k)) where
   abbrev gridFor : Grid
   gridFor = record { cells = n; width = e .width; rows = e .rows; slots = v .slots; tops = x .tops }

@@ -17,6 +17,7 @@ use Rattle.model.specs.Valid.{SettingSmall}
 use Rattle.model.specs.Values.{raised, lowered, settingOf, loadValue}
 use Rattle.model.specs.Cells.{settingGrid, settingGrids}
 use Rattle.model.specs.Index.{widthOf, rowIndex, rowCount, columnCount, cellCount, columnUp, columnDown}
+use Rattle.model.specs.Bounds.{mostCells}
 use Rattle.model.proofs.UptoLaws.{getD-upto}
 use Rattle.model.proofs.ValueLaws.{raised-back, raised-small, raised-parts, numbered-at}
 use Rattle.model.proofs.RoundingLaws.{floor-small}
@@ -116,8 +117,8 @@ module _ (slots : List Slot) (v : Setting) (small : SettingSmall v) (t : ℕ) (l
       }
 
 -- nothing is over 2^38
-module _ (slots : List Slot) (v : Setting) (few : length slots ≤ 4) (fits : cellCount 1 slots ≤ 1048576) (t back up down : ℕ) (active : List ℕ) (m : Moved slots v t back up down active) where
-  room : (x c : ℕ) → x ≤ 65536 * (length slots - t) * c → c ≤ 1048576 → x ≤ 274877906944
+module _ (slots : List Slot) (v : Setting) (few : length slots ≤ 4) (fits : cellCount 1 slots ≤ mostCells) (t back up down : ℕ) (active : List ℕ) (m : Moved slots v t back up down active) where
+  room : (x c : ℕ) → x ≤ 65536 * (length slots - t) * c → c ≤ mostCells → x ≤ 274877906944
   room x c h k =
       let n : 65536 * (length slots - t) ≤ 262144 = omega arith in
       omega (arith, mul-le-mul n k)
@@ -188,7 +189,7 @@ module _ (x : Load) (h : LoadHeld x) where
 
   -- all slots passed
   pub moved-all : (c unit k : ℕ) (slots : List Slot) (back up down : ℕ) (active : List ℕ) → c < x .settings → unit ≡ 4 ^ k → length slots ≤ 4
-      → cellCount 1 slots ≤ 1048576 → Moved slots (settingOf (h .settings) c) 0 back up down active
+      → cellCount 1 slots ≤ mostCells → Moved slots (settingOf (h .settings) c) 0 back up down active
       → MoveIs 0 slots k (settingOf (h .settings) c) (record { gain = getD (x .worths) c 0; digit = c * unit; back = back; up = up; down = down; active = active })
   moved-all c unit k slots back up down active l e few fits m =
       let v = settingOf (h .settings) c in

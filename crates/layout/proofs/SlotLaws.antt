@@ -11,6 +11,7 @@ use Rattle.model.specs.Grid.{Slot, stepFor, slotsFrom, slotsOf}
 use Rattle.model.specs.Trials.{gridTop, cells}
 use Rattle.model.specs.Values.{Held, problemOf}
 use Rattle.model.specs.Index.{widthOf}
+use Rattle.model.specs.Bounds.{mostCells}
 use Rattle.model.proofs.IndexLaws.{cells-one}
 use Rattle.model.proofs.DemandLaws.{slotAt}
 use Rattle.model.proofs.SheetLaws.{length-slots}
@@ -169,7 +170,7 @@ module _ (v : Book) (h : Held v) (x : Slots) (are : SlotsIn 0 (x .steps) (x .top
         step-small = omega (arith, held-limit-small v h t l);
       }
 
-  unfoldable pub laid : cells (problemOf v) ≤ 1048576 → Laid x (v .slots)
+  unfoldable pub laid : cells (problemOf v) ≤ mostCells → Laid x (v .slots)
   laid fits =
       record {
         slots = slotsOf (problemOf v);

@@ -25,6 +25,7 @@ use Rattle.model.specs.Calls.{sizeRules, fittingBook, choiceOr, planShee
 use Rattle.model.specs.Demand.{apparentSquaredIn, S, T, N, CloserOverload, Demand3}
 use Rattle.model.specs.Valid.{SettingSmall, ValidBook}
 use Rattle.model.specs.Answers.{Output, answerOf, bufferAfter}
+use Rattle.model.specs.Bounds.{mostCells}
 use Rattle.model.proofs.ListLaws.{both, each, every-mem}
 use Rattle.model.proofs.UptoLaws.{suc-across}
 use Rattle.model.proofs.RefusalLaws.{done-same, checked-done, then-done, NoneApplies, first-passed, first-none, number-some}
@@ -235,13 +236,13 @@ demand3 book words before e = go (plannerResult book words (length before)) refl
 
 -- "The planner answers a book with a sheet whenever no refusal applies": none of 1 to 8, and none of 9 to 12
 pub answers : (book : List ℕ) (words room : ℕ) (b : Problem) → readBook book ≡ done b
-    → cells b ≤ 1_048_576 → neededWords b ≤ words → sheetLength b ≤ room → trials b ≤ b .budget
+    → cells b ≤ mostCells → neededWords b ≤ words → sheetLength b ≤ room → trials b ≤ b .budget
     → answerOf (plannerResult book words room) .number ≡ 0
 unfolding plannerResult fittingBook planSheet sizeRules
 answers book words room b e few wide long enough =
     ap (λ x. answerOf (andThen (andThen x (λ a. checked 0 (first (sizeRules a words room)) (done a))) planSheet) .number) e
     ∙ ap (λ f. answerOf (andThen (checked 0 f (done b)) planSheet) .number)
     (first-none (sizeRules b words room)
-    (le-ltb 1_048_576 (cells b) few, (le-ltb words (neededWords b) wide, (le-ltb room (sheetLength b) long, tt))))
+    (le-ltb mostCells (cells b) few, (le-ltb words (neededWords b) wide, (le-ltb room (sheetLength b) long, tt))))
     ∙ ap (λ f. answerOf (checked 0 f (done (sheetOf b (choiceOr (plan b)) (trials b)))) .number)
     (first-none (budgetRules b) (le-ltb (b .budget) (trials b) enough, tt))

@@ -8,6 +8,7 @@ use lib.ListN.{length, getD}
 use Rattle.model.specs.declared.Book.{Book}
 use Rattle.model.specs.declared.Load.{Load}
 use Rattle.model.specs.Lists.{Every, upto}
+use Rattle.model.specs.Bounds.{mostLoads}
 use Rattle.model.specs.Book.{Settings, Problem, Power}
 use Rattle.model.specs.Choice.{powerIn, noSetting}
 use Rattle.model.specs.Valid.{ValidBook, SettingSmall}
@@ -29,7 +30,7 @@ module _ (v : Book) (h : Held v) where
   unfolding bookValue
   held-count = ap (λ (x : Book). x .count) held-is
 
-  pub held-few : v .count ≤ 24
+  pub held-few : v .count ≤ mostLoads
   held-few = omega (arith, held-count, held-valid .loads-few)
 
   pub held-slots : v .slots ≡ length (problemOf v .limits)
@@ -47,10 +48,10 @@ module _ (v : Book) (h : Held v) where
   held-limit-small s l =
       omega (arith, held-four, held-limit s (omega (arith, held-four)), every-at (λ x. x < 65536) (problemOf v .limits) 0 (held-valid .limits-small) s (omega (arith, held-slots)))
 
-  pub held-load : (k : ℕ) (d : Load) → k < 24 → getD (v .loads) k d ≡ loadValue (getD (problemOf v .loads) k [])
+  pub held-load : (k : ℕ) (d : Load) → k < mostLoads → getD (v .loads) k d ≡ loadValue (getD (problemOf v .loads) k [])
   unfolding bookValue
   held-load k d l =
-      ap (λ (x : Book). getD (x .loads) k d) held-is ∙ getD-upto (λ i. loadValue (getD (problemOf v .loads) i [])) 24 k d l
+      ap (λ (x : Book). getD (x .loads) k d) held-is ∙ getD-upto (λ i. loadValue (getD (problemOf v .loads) i [])) mostLoads k d l
 
 -- ---- settings
 

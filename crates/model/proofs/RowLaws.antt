@@ -21,6 +21,7 @@ use Rattle.model.specs.Trials.{gridTop}
 use Rattle.model.specs.Valid.{SettingKept, SlotsFor, Ready, SettingBelow}
 use Rattle.model.specs.Cells.{Key, beats, join, bestKey, settingGrid, settingGrids, choiceKey, bestWhere, bestAt, joinUpto, rangeAll, hasCell, cellBest, Bounded}
 use Rattle.model.specs.Index.{up, down, widthOf, pairsAt, raisedIn, rowIndex, columnIndex, rowCount, columnCount, indexOf, columnUp, columnDown}
+use Rattle.model.specs.Bounds.{mostCells, mostRows}
 use Rattle.model.proofs.OrderLaws.{join-none, join-assoc}
 use Rattle.model.proofs.ListLaws.{both, each, bool-same, keep-same, every-imp, every-append, every-at}
 use Rattle.model.proofs.IntegerLaws.{split}
@@ -359,12 +360,12 @@ rows-half r n [] z h l = absurd (omega arith)
 rows-half r n (s ∷ slots) z h l =
     omega (arith, mul-le-mul (rows-columns r n slots (z .1) h) (wide r (gridTop s) (s .loads) (omega (arith, z .0 .1))))
 
-few-rows : (a b : ℕ) → 2 * a ≤ b → a * b ≤ 1048576 → a ≤ 724
+few-rows : (a b : ℕ) → 2 * a ≤ b → a * b ≤ mostCells → a ≤ mostRows
 few-rows a b h k =
     ⊎-elim
-    (λ (l : 724 < a). let m : 725 ≤ a = l in let o : 1450 ≤ b = omega arith in absurd (omega (arith, mul-le-mul m o)))
-    (λ (l : a ≤ 724). l)
-    (split 724 a)
+    (λ (l : mostRows < a). let m : 725 ≤ a = l in let o : 1450 ≤ b = omega arith in absurd (omega (arith, mul-le-mul m o)))
+    (λ (l : a ≤ mostRows). l)
+    (split mostRows a)
 
-pub rows-few : (r n : ℕ) (slots : List Slot) → SlotsFor n slots → 0 < n → 0 < length slots → product (map (pairsAt (suc r)) slots) ≤ 1048576 → rowCount slots ≤ 724
+pub rows-few : (r n : ℕ) (slots : List Slot) → SlotsFor n slots → 0 < n → 0 < length slots → product (map (pairsAt (suc r)) slots) ≤ mostCells → rowCount slots ≤ mostRows
 rows-few r n slots z h l k = few-rows (rowCount slots) (columnCount (suc r) slots) (rows-half r n slots z h l) (omega (arith, cells-area (suc r) slots))

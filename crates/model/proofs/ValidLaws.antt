@@ -13,6 +13,7 @@ use lib.ListN.{length}
 use borrow.Author.Tests.{ltb-false, not-false}
 use Rattle.model.specs.declared.Finding.the-variants.{Passed}
 use Rattle.model.specs.Lists.{within, uptoFrom, upto, any, Every, keep}
+use Rattle.model.specs.Bounds.{mostLoads, mostFineness}
 use Rattle.model.specs.Frames.{field, lineOf, afterLine}
 use Rattle.model.specs.Refusals.{Result, done, first, andThen}
 use Rattle.model.specs.Book.{noPower, Setting, Settings, Problem, slotCount, loadCount, finenessIn, problem, optionCount, optionStart, powerAt, optionAt, options, standing, settings, lineRule, headerRules, reactiveExceeds, someExceeds, loadRules, endRules, readLoads, readBook}
@@ -167,10 +168,10 @@ module _ (bytes : List ℕ) (b : Problem) (e : readBook bytes ≡ done b) where
       let line : List ℕ = lineOf bytes in
       let r : BookRead bytes b = book-read bytes b e in
       let s : (1 ≤ slotCount line) × (slotCount line ≤ 4) = within-is 1 4 (slotCount line) (not-false (within 1 4 (slotCount line)) (r .rules .1 .1 .0)) in
-      let w : (within 1 24 (loadCount line) ≡ true) × (within 1 64 (finenessIn line) ≡ true)
-      = both-true (within 1 24 (loadCount line)) (within 1 64 (finenessIn line))
-      (not-false (within 1 24 (loadCount line) && within 1 64 (finenessIn line)) (r .rules .1 .1 .1 .1 .0)) in
-      let n : (1 ≤ loadCount line) × (loadCount line ≤ 24) = within-is 1 24 (loadCount line) (w .0) in
+      let w : (within 1 mostLoads (loadCount line) ≡ true) × (within 1 mostFineness (finenessIn line) ≡ true)
+      = both-true (within 1 mostLoads (loadCount line)) (within 1 mostFineness (finenessIn line))
+      (not-false (within 1 mostLoads (loadCount line) && within 1 mostFineness (finenessIn line)) (r .rules .1 .1 .1 .1 .0)) in
+      let n : (1 ≤ loadCount line) × (loadCount line ≤ mostLoads) = within-is 1 mostLoads (loadCount line) (w .0) in
       let d : (1 ≤ finenessIn line) × (finenessIn line ≤ 64) = within-is 1 64 (finenessIn line) (w .1) in
       let fine : finenessIn line ≡ b .fineness = ap (λ (x : Problem). x .fineness) (r .same) in
       record {

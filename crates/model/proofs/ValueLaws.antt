@@ -17,6 +17,7 @@ use Rattle.model.specs.Choice.{powerIn, noSetting}
 use Rattle.model.specs.Values.{Held, raised, lowered, settingOf, powerOf, loadValue, bookValue, settingIn, settingsIn, problemOf}
 use Rattle.model.specs.Valid.{Numbered, Labelled, SettingSmall, ValidBook}
 use Rattle.model.specs.Index.{up, down}
+use Rattle.model.specs.Bounds.{mostLoads}
 use Rattle.model.proofs.ListLaws.{every-at}
 use Rattle.model.proofs.UptoLaws.{suc-across, getD-upto, take-upto, upto-is}
 use Rattle.model.proofs.IntegerLaws.{split, sub-pos, sub-neg, abs-sub}
@@ -102,8 +103,8 @@ unfolding problemOf bookValue
 valid-kept b g =
     let limits-are : take (length (b .limits)) (map (λ s. getD (b .limits) s 0) (upto 4)) ≡ b .limits
     = take-upto (λ s. getD (b .limits) s 0) (length (b .limits)) 4 (g .slots-few) ∙ upto-is (λ s. getD (b .limits) s 0) (b .limits) 0 (λ i l. refl) in
-    let loads-are : map (settingsIn (length (b .limits))) (take (length (b .loads)) (map (λ k. loadValue (getD (b .loads) k [])) (upto 24))) ≡ b .loads
-    = ap (map (settingsIn (length (b .limits)))) (take-upto (λ k. loadValue (getD (b .loads) k [])) (length (b .loads)) 24 (g .loads-few))
+    let loads-are : map (settingsIn (length (b .limits))) (take (length (b .loads)) (map (λ k. loadValue (getD (b .loads) k [])) (upto mostLoads))) ≡ b .loads
+    = ap (map (settingsIn (length (b .limits)))) (take-upto (λ k. loadValue (getD (b .loads) k [])) (length (b .loads)) mostLoads (g .loads-few))
     ∙ map-map (settingsIn (length (b .limits))) (λ k. loadValue (getD (b .loads) k [])) (upto (length (b .loads)))
     ∙ upto-is (λ k. settingsIn (length (b .limits)) (loadValue (getD (b .loads) k []))) (b .loads) [] (λ k l.
     value-kept (length (b .limits)) (getD (b .loads) k []) (g .slots-few)

@@ -14,6 +14,7 @@ use lib.Dec.{leb, ltb}
 use lib.ListN.{getD, set, length, length-set}
 use lib.Seq.{getD-set-same, getD-set-other}
 use Rattle.model.specs.Cells.{Key, join, shift?, joinUpto, isSome, countUpto, Bounded}
+use Rattle.model.specs.Bounds.{mostRows}
 use Rattle.model.proofs.CellLaws.{upto-none}
 use Rattle.table.specs.Table.{cellAt, keyOf, Rows, reached}
 use Rattle.model.proofs.IntegerLaws.{split}
@@ -181,7 +182,7 @@ module _ {lows highs : List ℕ} (grid : Grid) (row : ℕ) (load : LoadMoves) (s
 -- ---- the layer
 
 pub layer-none : {ws lows highs lows′ highs′ : List ℕ} {grid : Grid} {cur next : ℕ} {load : LoadMoves}
-    → length lows′ ≡ 724 → length highs′ ≡ 724 → LayerMade ws ws lows highs lows′ highs′ grid cur next load 0
+    → length lows′ ≡ mostRows → length highs′ ≡ mostRows → LayerMade ws ws lows highs lows′ highs′ grid cur next load 0
 layer-none a b = record {
   same-length = refl;
   low-length = a;

@@ -10,6 +10,7 @@ use native.Mathlib.Omega.{arith}
 use borrow.Author.Tests.{le-leb, lt-leb}
 use lib.Dec.{leb}
 use lib.ListN.{getD}
+use Rattle.model.specs.Bounds.{mostCells}
 use Rattle.model.proofs.IntegerLaws.{split}
 use Rattle.pass.specs.declared.SettingMove.{SettingMove}
 use Rattle.pass.specs.declared.Grid.{Grid}
@@ -54,7 +55,7 @@ module _ (lows highs : List ℕ) (grid : Grid) (row : ℕ) (mv : SettingMove) wh
   }
 
   pub clip-fits : GridFits grid → StretchesFit lows highs grid → MoveFits grid mv → row < grid .rows
-      → (getD lows (row - mv .back) 0 ≤ 1048576) × (getD highs (row - mv .back) 0 ≤ 1048576) × (mv .up ≤ 1099511627776) × (mv .down ≤ 1099511627776)
+      → (getD lows (row - mv .back) 0 ≤ mostCells) × (getD highs (row - mv .back) 0 ≤ mostCells) × (mv .up ≤ 1099511627776) × (mv .down ≤ 1099511627776)
   clip-fits g s fit l =
       let k : row - mv .back < grid .rows = omega arith in
       omega (arith, s .low-fits (row - mv .back) k, s .high-fits (row - mv .back) k)

@@ -18,6 +18,7 @@ use Rattle.model.specs.Trials.{cells, neededWords, trials, WordsKept}
 use Rattle.model.specs.Sheet.{sheetOf, sheetLength}
 use Rattle.model.specs.Calls.{sizeRules, fitting, fittingBook, choiceOr, planSheet, plannerResult, freeFor, freeWords}
 use Rattle.model.specs.Answers.{Output, refusalAnswer, Writes}
+use Rattle.model.specs.Bounds.{mostCells}
 use Rattle.model.proofs.ReadingLaws.{refused-writes}
 use Rattle.model.proofs.RefusalLaws.{first-here, first-next, first-last}
 use Rattle.planner.specs.Planner.{fittedPlan}
@@ -36,27 +37,27 @@ unfolding freeWords fittingBook
 free-is book words room = refl
 
 module _ (words room : ℕ) (b : Problem) where
-  pub fit-many : 1_048_576 < cells b → fitting words room b ≡ refused TooManyCells 0
+  pub fit-many : mostCells < cells b → fitting words room b ≡ refused TooManyCells 0
   unfolding sizeRules
-  fit-many h = ap (λ f. checked 0 f (done b)) (first-here TooManyCells _ (ltb 1_048_576 (cells b)) (lt-ltb _ _ h))
+  fit-many h = ap (λ f. checked 0 f (done b)) (first-here TooManyCells _ (ltb mostCells (cells b)) (lt-ltb _ _ h))
 
-  past-cells : cells b ≤ 1_048_576 → first (sizeRules b words room) ≡ first (drop 1 (sizeRules b words room))
+  past-cells : cells b ≤ mostCells → first (sizeRules b words room) ≡ first (drop 1 (sizeRules b words room))
   unfolding sizeRules
-  past-cells h = first-next TooManyCells _ (ltb 1_048_576 (cells b)) (le-ltb _ _ h)
+  past-cells h = first-next TooManyCells _ (ltb mostCells (cells b)) (le-ltb _ _ h)
 
-  pub fit-small : cells b ≤ 1_048_576 → words < neededWords b → fitting words room b ≡ refused WorkTooSmall 0
+  pub fit-small : cells b ≤ mostCells → words < neededWords b → fitting words room b ≡ refused WorkTooSmall 0
   unfolding sizeRules
   fit-small h k = ap (λ f. checked 0 f (done b)) (past-cells h ∙ first-here WorkTooSmall _ (ltb words (neededWords b)) (lt-ltb _ _ k))
 
-  past-words : cells b ≤ 1_048_576 → neededWords b ≤ words → first (sizeRules b words room) ≡ first (drop 2 (sizeRules b words room))
+  past-words : cells b ≤ mostCells → neededWords b ≤ words → first (sizeRules b words room) ≡ first (drop 2 (sizeRules b words room))
   unfolding sizeRules
   past-words h k = past-cells h ∙ first-next WorkTooSmall _ (ltb words (neededWords b)) (le-ltb _ _ k)
 
-  pub fit-short : cells b ≤ 1_048_576 → neededWords b ≤ words → room < sheetLength b → fitting words room b ≡ refused BufferTooSmall 0
+  pub fit-short : cells b ≤ mostCells → neededWords b ≤ words → room < sheetLength b → fitting words room b ≡ refused BufferTooSmall 0
   unfolding sizeRules
   fit-short h k l = ap (λ f. checked 0 f (done b)) (past-words h k ∙ first-here BufferTooSmall [] (ltb room (sheetLength b)) (lt-ltb _ _ l))
 
-  pub fit-done : cells b ≤ 1_048_576 → neededWords b ≤ words → sheetLength b ≤ room → fitting words room b ≡ done b
+  pub fit-done : cells b ≤ mostCells → neededWords b ≤ words → sheetLength b ≤ room → fitting words room b ≡ done b
   unfolding sizeRules
   fit-done h k l = ap (λ f. checked 0 f (done b)) (past-words h k ∙ first-last BufferTooSmall (ltb room (sheetLength b)) (le-ltb _ _ l))
 

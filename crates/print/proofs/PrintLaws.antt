@@ -9,6 +9,7 @@ use native.Mathlib.Omega.{arith}
 use lib.ListN.{length, drop, set, replicate, length-append}
 use borrow.Author.Tests.{ne-eqb}
 use Rattle.model.specs.declared.Answer.{Answer}
+use Rattle.model.specs.Bounds.{mostSheet}
 use Rattle.model.specs.Frames.{digits}
 use Rattle.model.specs.Refusals.{Result, refused, done, numberOf}
 use Rattle.model.specs.Answers.{Output, Writes}
@@ -56,25 +57,25 @@ zeros-left (suc n) zero = let e : 0 ≡ 0 - suc n = omega arith in ap zeros e
 zeros-left (suc n) (suc m) = zeros-left n m ∙ ap zeros (sym (suc-sub-suc m n))
 
 -- of a call that was lent zeros, what is printed is its sheet, or the line of its refusal
-pub printed-is : (x : Result Output) (before buffer : List ℕ) (a : Answer) → before ≡ zeros 159 → Writes x before buffer a
+pub printed-is : (x : Result Output) (before buffer : List ℕ) (a : Answer) → before ≡ zeros mostSheet → Writes x before buffer a
     → printedAs a buffer ≡ printedValue (printed x)
 unfolding printedAs printedValue
 printed-is (refused r line) before buffer a e w =
     ap₂ printedAs (w .answers) (w .leaves ∙ e)
-    ∙ ap (λ t. cond t (record { bytes = zeros 159; length = 0 }) (record { bytes = written (zeros 159) 0 (refusalLine (numberOf r) line); length = 9 }))
+    ∙ ap (λ t. cond t (record { bytes = zeros mostSheet; length = 0 }) (record { bytes = written (zeros mostSheet) 0 (refusalLine (numberOf r) line); length = 9 }))
     (ne-eqb (numberOf r) 0 (number-some r))
     ∙ (λ i. record { bytes = bytes i; length = sym (length-refusal (numberOf r) line) i })
   where
-    bytes : written (zeros 159) 0 (refusalLine (numberOf r) line) ≡ refusalLine (numberOf r) line ++ zeros (159 - length (refusalLine (numberOf r) line))
+    bytes : written (zeros mostSheet) 0 (refusalLine (numberOf r) line) ≡ refusalLine (numberOf r) line ++ zeros (mostSheet - length (refusalLine (numberOf r) line))
     bytes =
-        written-start (zeros 159) (refusalLine (numberOf r) line)
-        ∙ ap (λ l. refusalLine (numberOf r) line ++ l) (zeros-left (length (refusalLine (numberOf r) line)) 159)
+        written-start (zeros mostSheet) (refusalLine (numberOf r) line)
+        ∙ ap (λ l. refusalLine (numberOf r) line ++ l) (zeros-left (length (refusalLine (numberOf r) line)) mostSheet)
 printed-is (done s) before buffer a e w =
     ap₂ printedAs (w .answers) (w .leaves ∙ ap (λ l. s .bytes ++ drop (length (s .bytes)) l) e)
-    ∙ (λ i. record { bytes = s .bytes ++ zeros-left (length (s .bytes)) 159 i; length = length (s .bytes) })
+    ∙ (λ i. record { bytes = s .bytes ++ zeros-left (length (s .bytes)) mostSheet i; length = length (s .bytes) })
 
 -- the bytes that are printed lie within the value
 pub printed-fits : (v : Printed) (out : List ℕ) → v ≡ printedValue out → v .length ≤ length (v .bytes)
 unfolding printedValue
 printed-fits v out e =
-    omega (arith, ap (λ (x : Printed). x .length) e, ap (λ (x : Printed). length (x .bytes)) e, length-append out (zeros (159 - length out)))
+    omega (arith, ap (λ (x : Printed). x .length) e, ap (λ (x : Printed). length (x .bytes)) e, length-append out (zeros (mostSheet - length out)))

@@ -17,6 +17,7 @@ use Rattle.model.specs.Trials.{gridTop}
 use Rattle.model.specs.Valid.{SlotsFor}
 use Rattle.model.specs.Index.{depthOf, widthOf, pairAt, gridFrom}
 use Rattle.model.specs.Cells.{admitsAll}
+use Rattle.model.specs.Bounds.{mostLoads}
 use Rattle.model.proofs.IntegerLaws.{sub-pos, sub-neg}
 use Rattle.model.proofs.ListLaws.{every-at}
 use Rattle.search.specs.Search.{SlotsIn}
@@ -51,7 +52,7 @@ module _ {a raised step top count limit : ℕ} (f : PairFits a raised step top c
       let one : 1 ≤ step = omega (arith, f .some-step) in
       omega (arith, f .reactive, mul-le-mul-left (raised + (top + count)) one)
 
-  pub spread-small : count * (step - 1) ≤ 24 * 65535
+  pub spread-small : count * (step - 1) ≤ mostLoads * 65535
   spread-small = let l : step - 1 ≤ 65535 = omega (arith, f .step-fits) in mul-le-mul (f .count-fits) l
 
 -- ---- one slot
@@ -75,7 +76,7 @@ for-at n [] a i l = absurd (omega arith)
 for-at n (s ∷ ss) a zero l = a .0
 for-at n (s ∷ ss) a (suc i) l = for-at n ss (a .1) i (omega arith)
 
-module _ (s : Slot) (count : ℕ) (some : 0 < s .step) (loads : s .loads ≡ count) (small : SlotSmall s) (few : count ≤ 24) (a b : ℕ) where
+module _ (s : Slot) (count : ℕ) (some : 0 < s .step) (loads : s .loads ≡ count) (small : SlotSmall s) (few : count ≤ mostLoads) (a b : ℕ) where
   pub pair-fits : PairFits (a % (gridTop s + 1)) (b % widthOf 1 s) (s .step) (gridTop s) count (s .limit)
   pair-fits =
       let R : ℕ = gridTop s in
@@ -85,7 +86,7 @@ module _ (s : Slot) (count : ℕ) (some : 0 < s .step) (loads : s .loads ≡ cou
       let below : a % (R + 1) ≤ R = omega (arith, mod-lt a one) in
       let across : b % widthOf 1 s + (R + count) ≤ R + R + R + (count + count) = omega (arith, mod-lt b wide) in
       let top : R * L ≤ s .limit = omega (arith, div-add-mod' (s .limit) L) in
-      let each : count * L ≤ 24 * 65535 = mul-le-mul few (small .0) in
+      let each : count * L ≤ mostLoads * 65535 = mul-le-mul few (small .0) in
       record {
         active = omega (arith, mul-le-mul-right L below);
         reactive = omega (arith, mul-le-mul-right L across);

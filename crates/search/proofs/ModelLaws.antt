@@ -20,6 +20,7 @@ use Rattle.model.specs.Choice.{noSetting}
 use Rattle.model.specs.Cells.{Key, shift?, settingGrids, joinUpto, isSome, countUpto, cellBest, Bounded}
 use Rattle.model.specs.Index.{rowCount, cellCount, columnUp, columnDown}
 use Rattle.model.specs.Valid.{SettingBelow}
+use Rattle.model.specs.Bounds.{mostLoads}
 use borrow.Author.Tests.{le-leb, lt-leb}
 use Rattle.model.proofs.IntegerLaws.{split}
 use Rattle.model.proofs.ListLaws.{every-at, every-take}
@@ -142,8 +143,8 @@ module _ {grid : Grid} {origin n : ℕ} {moves : List LoadMoves} (m : Modelled g
       bounded i = subst (λ j. Bounded (65535 * j) (4 ^ j) (cellBest (suc (m .r)) (m .slots) (take k (m .loads)) i)) long
           (cell-bounded 65535 (suc (m .r)) (m .slots) (take k (m .loads)) (every-take (Every (SettingBelow 65535)) k (m .loads) (m .small)) i)
 
-      powers : 4 ^ suc k ≤ 4 ^ 24
-      powers = let few : suc k ≤ 24 = omega (arith, m .loads-fit) in let four : 0 < 4 = omega arith in pow-le-pow-right four few
+      powers : 4 ^ suc k ≤ 4 ^ mostLoads
+      powers = let few : suc k ≤ mostLoads = omega (arith, m .loads-fit) in let four : 0 < 4 = omega arith in pow-le-pow-right four few
 
   -- ---- what a setting offers
 

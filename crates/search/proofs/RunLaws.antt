@@ -14,6 +14,7 @@ use lib.Dec.{T}
 use lib.ListN.{length, getD, set, drop, replicate, length-set, length-replicate, length-drop}
 use lib.Seq.{getD-set-same, getD-set-other, getD-drop, ext-getD}
 use Rattle.model.specs.Lists.{keepIf, distinct, sameLists}
+use Rattle.model.specs.Bounds.{mostCells, mostRows}
 use Rattle.model.specs.Grid.{Slot, gridsOf}
 use Rattle.model.specs.Trials.{gridTop, samePair, inRange, reachedCount}
 use Rattle.model.specs.Index.{rowIndex, columnIndex, columnCount, indexOf}
@@ -33,7 +34,7 @@ use Rattle.pass.proofs.LayerLaws.{rows-count-le}
 use Rattle.search.specs.Search.{firstCell, movesOf, Modelled, LayerIs, Places, trialsOf, Run, Searched}
 use Rattle.search.proofs.ModelLaws.{width-in, grid-fits, load-fits, load-room, layer-next, layer-count}
 
-pub tries-small : {reached count : ℕ} → reached ≤ 1048576 → count ≤ 4 → reached * count ≤ 4194304
+pub tries-small : {reached count : ℕ} → reached ≤ mostCells → count ≤ 4 → reached * count ≤ 4194304
 tries-small h k = mul-le-mul h k
 
 -- ---- the first layer
@@ -140,7 +141,7 @@ module _ {grid : Grid} {origin n : ℕ} {moves : List LoadMoves} (m : Modelled g
     first-high zero l = omega (arith, high-first, origin-in)
     first-high (suc row) l = omega (arith, high-rest row)
 
-    pub run-first : length lows ≡ 724 → length highs ≡ 724 → Run ws ws lows highs grid origin n moves m 0 0 1 0
+    pub run-first : length lows ≡ mostRows → length highs ≡ mostRows → Run ws ws lows highs grid origin n moves m 0 0 1 0
     run-first a b = record {
       places = record {
         same-length = refl;
@@ -175,7 +176,7 @@ module _ {grid : Grid} {origin n : ℕ} {moves : List LoadMoves} (m : Modelled g
     pub run-room : LoadRoom ws₁ lows highs grid cur (movesOf moves k)
     run-room = load-room m l (run .layer)
 
-    pub run-tries : (reached ≤ 1048576) × (movesOf moves k .count ≤ 4)
+    pub run-tries : (reached ≤ mostCells) × (movesOf moves k .count ≤ 4)
     run-tries = (
       omega (arith, run .reached-is l, rows-count-le (grid .rows) (grid .width) (held ws₁ lows highs cur (grid .width)), grid-fits m .area, m .grid-is .cells-fit),
       load-fits m k l .count-fits,
@@ -239,19 +240,19 @@ zeros zero i = refl
 zeros (suc k) zero = refl
 zeros (suc k) (suc i) = zeros k i
 
-pub set-first : (v : ℕ) → getD (set (replicate 724 0) 0 v) 0 0 ≡ v
-set-first v = getD-set-same (replicate 724 0) 0 v 0 (omega (arith, length-replicate {A = ℕ} 724 0))
+pub set-first : (v : ℕ) → getD (set (replicate mostRows 0) 0 v) 0 0 ≡ v
+set-first v = getD-set-same (replicate mostRows 0) 0 v 0 (omega (arith, length-replicate {A = ℕ} mostRows 0))
 
-set-rest : (v row : ℕ) → 1 ≤ row → getD (set (replicate 724 0) 0 v) row 0 ≡ 0
-set-rest v row l = getD-set-other (replicate 724 0) 0 row v 0 (λ e. omega arith) ∙ zeros 724 row
+set-rest : (v row : ℕ) → 1 ≤ row → getD (set (replicate mostRows 0) 0 v) row 0 ≡ 0
+set-rest v row l = getD-set-other (replicate mostRows 0) 0 row v 0 (λ e. omega arith) ∙ zeros mostRows row
 
-pub set-long : (v : ℕ) → length (set (replicate 724 0) 0 v) ≡ 724
-set-long v = length-set (replicate 724 0) 0 v ∙ length-replicate {A = ℕ} 724 0
+pub set-long : (v : ℕ) → length (set (replicate mostRows 0) 0 v) ≡ mostRows
+set-long v = length-set (replicate mostRows 0) 0 v ∙ length-replicate {A = ℕ} mostRows 0
 
-pub idle-zeros : (used : ℕ) → EmptyFrom (replicate 724 0) (replicate 724 0) used
-idle-zeros used = record { no-low = λ row l. zeros 724 row; no-high = λ row l. zeros 724 row }
+pub idle-zeros : (used : ℕ) → EmptyFrom (replicate mostRows 0) (replicate mostRows 0) used
+idle-zeros used = record { no-low = λ row l. zeros mostRows row; no-high = λ row l. zeros mostRows row }
 
-pub idle-first : (v w : ℕ) → EmptyFrom (set (replicate 724 0) 0 v) (set (replicate 724 0) 0 w) 1
+pub idle-first : (v w : ℕ) → EmptyFrom (set (replicate mostRows 0) 0 v) (set (replicate mostRows 0) 0 w) 1
 idle-first v w = record { no-low = set-rest v; no-high = set-rest w }
 
 -- the words before the first layer was made

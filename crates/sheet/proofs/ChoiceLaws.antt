@@ -18,6 +18,7 @@ use Rattle.model.specs.declared.Finding.the-variants.{Passed, Refused}
 use Rattle.model.specs.declared.Load.{Load}
 use Rattle.model.specs.declared.Refusal.the-variants.{ForeignSheet}
 use Rattle.model.specs.Lists.{Every, sameLists}
+use Rattle.model.specs.Bounds.{mostLoads}
 use Rattle.model.specs.Frames.{field}
 use Rattle.model.specs.Refusals.{refused, done, _⇒_, first, checked}
 use Rattle.model.specs.Book.{Setting, Settings, Problem}
@@ -64,11 +65,11 @@ choice-none sheet i (vs ∷ loads) h (suc k) l o =
 
 -- the first k numbers of the sheet stand in the array, and each is one of its load's
 pub record ReadUpto (sheet : List ℕ) (b : Problem) (k : ℕ) (picks : List ℕ) : Type 0 where
-  pub room : length picks ≡ 24
+  pub room : length picks ≡ mostLoads
   pub same : (j : ℕ) → j < k → getD picks j 0 ≡ field sheet (18 + 2 * j) 2
   pub inside : (j : ℕ) → j < k → getD picks j 0 < length (getD (b .loads) j [])
 
-pub read-start : (sheet : List ℕ) (b : Problem) (picks : List ℕ) → length picks ≡ 24 → ReadUpto sheet b 0 picks
+pub read-start : (sheet : List ℕ) (b : Problem) (picks : List ℕ) → length picks ≡ mostLoads → ReadUpto sheet b 0 picks
 read-start sheet b picks e = record { room = e; same = λ j l. absurd (omega arith); inside = λ j l. absurd (omega arith) }
 
 module _ (book : Book) (h : Held book) (sheet picks : List ℕ) where

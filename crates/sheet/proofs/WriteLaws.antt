@@ -11,6 +11,7 @@ use lib.ListN.{length, getD, take, drop, length-append, length-take, drop-of-len
 use lib.Seq.{take-at}
 use Rattle.model.specs.declared.Book.{Book}
 use Rattle.model.specs.Lists.{upto}
+use Rattle.model.specs.Bounds.{mostSheet}
 use Rattle.model.specs.Frames.{unsigned}
 use Rattle.model.specs.Refusals.{done}
 use Rattle.model.specs.Answers.{bufferAfter}
@@ -116,12 +117,12 @@ module _ (book : Book) (h : Held book) (picks : List ℕ) (picked : Picked (prob
   bytes-length trials = sheet-length b c trials (choice-length b picks (held-valid book h) picked)
 
 -- no sheet has more than 159 bytes
-pub sheet-room : (book : Book) (h : Held book) (n : ℕ) → n ≡ sheetLength (problemOf book) → n ≤ 159
+pub sheet-room : (book : Book) (h : Held book) (n : ℕ) → n ≡ sheetLength (problemOf book) → n ≤ mostSheet
 sheet-room book h n e = omega (arith, held-valid book h .slots-few, held-valid book h .loads-few)
 
 -- a buffer of which as many bytes were lent as the sheet has
 module _ (book : Book) (h : Held book) (picks : List ℕ) (picked : Picked (problemOf book) picks) (trials n : ℕ) (l last : List ℕ)
-    (room : 159 ≤ length l) (all : n ≡ sheetLength (problemOf book))
+    (room : mostSheet ≤ length l) (all : n ≡ sheetLength (problemOf book))
     (e : last ≡ bufferAfter (done (sheetOf (problemOf book) (choiceOf (problemOf book) picks) trials)) (take n l)) where
   abbrev due : List ℕ
   due = sheetBytes (problemOf book) (choiceOf (problemOf book) picks) trials

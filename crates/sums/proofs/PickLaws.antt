@@ -14,6 +14,7 @@ use Rattle.model.specs.Book.{Setting, Settings, Problem}
 use Rattle.model.specs.Choice.{Choice, IsChoice, worthOf, codeOf, noSetting}
 use Rattle.model.specs.Valid.{Labelled, SettingSmall, ValidBook}
 use Rattle.model.specs.Values.{Held, problemOf, settingOf, loadValue, choiceOf, Picked, settingIn, settingsIn}
+use Rattle.model.specs.Bounds.{mostLoads}
 use Rattle.model.proofs.ListLaws.{every-imp, every-at, every-image}
 use Rattle.model.proofs.UptoLaws.{suc-across, upto-last, length-upto, getD-upto}
 use Rattle.model.proofs.ChoiceLaws.{snoc, worth-last, worth-most}
@@ -123,7 +124,7 @@ module _ (b : Problem) (picks : List ℕ) (valid : ValidBook b) (picked : Picked
       ap (λ x. worthOf (picksUpto b picks k) + x) (pick-worth k l)
       ∙ sym (ap worthOf (picks-last b picks k) ∙ worth-last (picksUpto b picks k) (pickOf b picks k))
 
-  pub worth-small : (k : ℕ) → k ≤ 24 → worthOf (picksUpto b picks k) ≤ 24 * 65535
+  pub worth-small : (k : ℕ) → k ≤ mostLoads → worthOf (picksUpto b picks k) ≤ mostLoads * 65535
   worth-small k few =
       omega (
         arith,
@@ -167,7 +168,7 @@ module _ (book : Book) (h : Held book) (picks : List ℕ) (picked : Picked (prob
         ap₂ (λ w (v : Load). w + getD (v .worths) (getD picks k 0) 0) e (load-at k d l)
         ∙ worth-more (problemOf book) picks (held-valid book h) picked k (inside k l)
 
-    pub held-worth-small : worthOf (picksUpto (problemOf book) picks (k + 1)) ≤ 24 * 65535
+    pub held-worth-small : worthOf (picksUpto (problemOf book) picks (k + 1)) ≤ mostLoads * 65535
     held-worth-small = worth-small (problemOf book) picks (held-valid book h) picked (k + 1) (omega (arith, held-few book h))
 
   -- the code from load k + 1 on, where a load stands before it

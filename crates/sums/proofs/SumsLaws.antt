@@ -14,6 +14,7 @@ use Rattle.model.specs.Book.{Power, Setting, Settings, Problem}
 use Rattle.model.specs.Choice.{Choice, IsChoice, plus, powerIn, sumIn, noSetting}
 use Rattle.model.specs.Valid.{Labelled, SettingSmall, ValidBook}
 use Rattle.model.specs.Values.{raisedBy, settingOf, loadValue}
+use Rattle.model.specs.Bounds.{mostLoads}
 use Rattle.model.proofs.ListLaws.{every-mem, every-at}
 use Rattle.model.proofs.UptoLaws.{getD-upto, upto-is}
 use Rattle.model.proofs.ChoiceLaws.{snoc, plus-comm, sum-last, choice-every}
@@ -71,7 +72,7 @@ entry-at : (entry : ℕ → Power → ℕ) (c : Choice) (s : ℕ) → s < 4 → 
 entry-at entry c s four = getD-upto (λ i. entry (length c) (sumIn i c)) 4 s 0 four
 
 module _ {entry : ℕ → Power → ℕ} (adds : Additive entry) (c : Choice) (small : Every SettingSmall c) where
-  entries-small : length c ≤ 24 → Small 4 (entriesOf entry c)
+  entries-small : length c ≤ mostLoads → Small 4 (entriesOf entry c)
   entries-small few s h = omega (arith, entry-at entry c s h, adds .most (length c) (sumIn s c) (sum-small c small s))
 
   entry-more : (v : Setting) → SettingSmall v → (s : ℕ)
@@ -115,7 +116,7 @@ module _ {entry : ℕ → Power → ℕ} {vs : Settings} {powers : List ℕ} (l 
       let most = l .adds .most 1 (powerIn s (settingOf vs j)) (power-small (settingOf vs j) (setting-small vs (l .small) j) s) in
       omega (arith, ap (λ i. getD powers i 0) place, l .at j s (omega arith) (omega arith))
 
-  can-shift : (j : ℕ) (less : List ℕ) → length c ≤ 24 → j < 4 → ((s : ℕ) → s < 4 → getD less s 0 ≤ getD (entriesOf entry c) s 0)
+  can-shift : (j : ℕ) (less : List ℕ) → length c ≤ mostLoads → j < 4 → ((s : ℕ) → s < 4 → getD less s 0 ≤ getD (entriesOf entry c) s 0)
       → CanShift (entriesOf entry c) powers j less
   can-shift j less few place counted =
       record { sums-small = entries-small (l .adds) c small few; powers-small = powers-small; place = place; counted = counted }
@@ -129,7 +130,7 @@ module _ {entry : ℕ → Power → ℕ} {vs : Settings} {powers : List ℕ} (l 
       upto-is (shiftedIn (entriesOf entry c) powers j less) (entriesOf entry c′) 0
       (λ s h. omega (arith, entry-at entry c s h, entry-at entry c′ s h, l .at j s place h, same s h, entry-more (l .adds) c small (settingOf vs j) (setting-small vs (l .small) j) s))
 
-  can-shift-more : (j : ℕ) → length c ≤ 24 → j < 4 → CanShift (entriesOf entry c) powers j noPowers
+  can-shift-more : (j : ℕ) → length c ≤ mostLoads → j < 4 → CanShift (entriesOf entry c) powers j noPowers
   can-shift-more j few place = can-shift j noPowers few place (λ s h. omega (arith, none-at s h))
 
   shifted-more : (j : ℕ) → j < 4 → shifted (entriesOf entry c) powers j noPowers ≡ entriesOf entry (snoc (settingOf vs j) c)
@@ -145,7 +146,7 @@ module _ {entry : ℕ → Power → ℕ} {vs : Settings} {powers : List ℕ} (l 
         let e : s ≡ 4 * 0 + s = omega arith in
         ap (λ i. getD powers i 0) e ∙ l .at 0 s (omega arith) h ∙ ap (λ v. entry 1 (powerIn s v)) (sym standing)
 
-    can-shift-set : length c ≤ 24 → CanShift (entriesOf entry c) powers 1 powers
+    can-shift-set : length c ≤ mostLoads → CanShift (entriesOf entry c) powers 1 powers
     can-shift-set few =
         can-shift 1 powers few (omega arith)
         (λ s h. omega (arith, first-at s h, entry-at entry c s h, entry-part (l .adds) c small k noSetting s inside))
@@ -179,11 +180,11 @@ reactives-of : (vs : Settings) → Every SettingSmall vs → PowersOf reactiveOf
 reactives-of vs sized =
     record { adds = reactive-adds; small = sized; at = λ j s p h. load-reactive vs j s p h ∙ raised-one (powerIn s (settingOf vs j) .q) }
 
-pub sums-small : (c : Choice) → Every SettingSmall c → length c ≤ 24 → SumsSmall (sumsValue c)
+pub sums-small : (c : Choice) → Every SettingSmall c → length c ≤ mostLoads → SumsSmall (sumsValue c)
 unfolding sumsValue
 sums-small c small few = record { active = entries-small active-adds c small few; reactive = entries-small reactive-adds c small few }
 
-pub can-add : (c : Choice) (vs : Settings) (j : ℕ) → Every SettingSmall c → length c ≤ 24 → Every SettingSmall vs → j < 4
+pub can-add : (c : Choice) (vs : Settings) (j : ℕ) → Every SettingSmall c → length c ≤ mostLoads → Every SettingSmall vs → j < 4
     → CanAdd (sumsValue c) (loadValue vs) j
 unfolding sumsValue
 can-add c vs j small few sized place =
@@ -197,7 +198,7 @@ added-last c vs j small sized place =
 
 module _ (c : Choice) (vs : Settings) (k : ℕ) (small : Every SettingSmall c) (sized : Every SettingSmall vs) (inside : k < length c)
     (standing : getD c k noSetting ≡ settingOf vs 0) where
-  pub can-exchange : length c ≤ 24 → CanExchange (sumsValue c) (loadValue vs)
+  pub can-exchange : length c ≤ mostLoads → CanExchange (sumsValue c) (loadValue vs)
   unfolding sumsValue
   can-exchange few =
       record { active = can-shift-set (actives-of vs sized) c small k inside standing few; reactive = can-shift-set (reactives-of vs sized) c small k inside standing few }
@@ -225,7 +226,7 @@ module _ (b : Problem) (valid : ValidBook b) where
     pub choice-small : Every SettingSmall c
     choice-small = choice-every (Every SettingSmall) SettingSmall (λ vs v h n. every-mem SettingSmall v vs n h) (b .loads) c (valid .loads .small) chosen
 
-    pub choice-few : length c ≤ 24
+    pub choice-few : length c ≤ mostLoads
     choice-few = omega (arith, chosen-length (b .loads) c chosen, valid .loads-few)
 
     pub choice-sums : SumsSmall (sumsValue c)

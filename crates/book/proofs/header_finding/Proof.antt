@@ -10,6 +10,7 @@ use Rattle.model.specs.declared.Refusal.the-variants.{NotHex, WrongKind, SlotsO
 use Rattle.model.specs.Lists.{within}
 use Rattle.model.specs.Refusals.{first}
 use Rattle.model.specs.Book.{headerRules, slotCount, loadCount, finenessIn}
+use Rattle.model.specs.Bounds.{mostLoads, mostFineness}
 use Rattle.model.proofs.FrameLaws.{field-below}
 use Rattle.model.proofs.RefusalLaws.{first-here, first-next, first-last}
 use native.Mathlib.Omega.{arith}
@@ -91,7 +92,7 @@ returns-5 c =
     let l = c .before .before .before .before .before .before .before .before .before .before .before .before .args .line .now in
     sym (digits (c .before .before .before)
     ∙ first-here LoadsOrFinenessOutOfRange _ _
-    (first-out (within 1 24 (loadCount l)) (within 1 64 (finenessIn l)) (ranged _ _ 1 24 _ (c .before .before .number2 .ensures) (c .before .outside2 .ensures) ∙ c .if5 .taken)))
+    (first-out (within 1 mostLoads (loadCount l)) (within 1 mostFineness (finenessIn l)) (ranged _ _ 1 mostLoads _ (c .before .before .number2 .ensures) (c .before .outside2 .ensures) ∙ c .if5 .taken)))
 
 number-requires-3 : tie.Need-number-requires-3
 number-requires-3 c κs = search needs
@@ -106,8 +107,8 @@ returns-6 c =
     let n = c .before .before .before in
     sym (digits (n .before .before .before)
     ∙ first-here LoadsOrFinenessOutOfRange _ _
-    (second-out (within 1 24 (loadCount l)) (within 1 64 (finenessIn l)) (ranged _ _ 1 24 _ (n .before .before .number2 .ensures) (n .before .outside2 .ensures) ∙ n .if5 .left)
-    (ranged _ _ 1 64 _ (c .before .before .number3 .ensures) (c .before .outside3 .ensures) ∙ c .if6 .taken)))
+    (second-out (within 1 mostLoads (loadCount l)) (within 1 mostFineness (finenessIn l)) (ranged _ _ 1 mostLoads _ (n .before .before .number2 .ensures) (n .before .outside2 .ensures) ∙ n .if5 .left)
+    (ranged _ _ 1 mostFineness _ (c .before .before .number3 .ensures) (c .before .outside3 .ensures) ∙ c .if6 .taken)))
 
 returns-7 : tie.Need-returns-7
 unfolding headerRules
@@ -116,8 +117,8 @@ returns-7 c =
     let n = c .before .before .before in
     sym (digits (n .before .before .before)
     ∙ first-last LoadsOrFinenessOutOfRange _
-    (none-out (within 1 24 (loadCount l)) (within 1 64 (finenessIn l)) (ranged _ _ 1 24 _ (n .before .before .number2 .ensures) (n .before .outside2 .ensures) ∙ n .if5 .left)
-    (ranged _ _ 1 64 _ (c .before .before .number3 .ensures) (c .before .outside3 .ensures) ∙ c .if6 .left)))
+    (none-out (within 1 mostLoads (loadCount l)) (within 1 mostFineness (finenessIn l)) (ranged _ _ 1 mostLoads _ (n .before .before .number2 .ensures) (n .before .outside2 .ensures) ∙ n .if5 .left)
+    (ranged _ _ 1 mostFineness _ (c .before .before .number3 .ensures) (c .before .outside3 .ensures) ∙ c .if6 .left)))
 
 pub header-finding-spec : {M : Type 1} → statement M
 header-finding-spec =

@@ -9,6 +9,7 @@ use Rattle.model.specs.Frames.{lineLength, lineOf}
 use Rattle.model.specs.Refusals.{first, refused}
 use Rattle.model.specs.Book.{optionCount, loadRules, settings}
 use Rattle.model.specs.Values.{loadValue}
+use Rattle.model.specs.Bounds.{mostLoads}
 use Rattle.book.specs.Lines.{loadsReading}
 use Rattle.book.proofs.LineLaws.{load-line, line-holds}
 use Rattle.book.proofs.LoadsLaws.{Read, read-none, read-unterminated, read-refused, read-more, read-trailing, read-all, length-is, line-is, after-is}
@@ -18,7 +19,7 @@ use Rattle.book.proofs.read_loads.Statement.{statement}
 use Rattle.book.proofs.read_loads.Tie as tie
 
 abbrev Inv-loop : tie.InvT-loop
-Inv-loop s slots count loads₀ at₀ k₀ loads at k = (at ≤ length s) × (k ≤ count) × (length loads ≡ 24) × Read slots count s at k loads
+Inv-loop s slots count loads₀ at₀ k₀ loads at k = (at ≤ length s) × (k ≤ count) × (length loads ≡ mostLoads) × Read slots count s at k loads
 
 abbrev μ-loop : tie.MeasureT-loop
 μ-loop s slots count loads₀ at₀ k₀ loads at k = count - k

@@ -5,6 +5,7 @@ use native.Mathlib.Nat.{one-mul, mul-le-mul}
 use native.Mathlib.Omega.{arith}
 use borrow.Author.Needs.{needs}
 use lib.ListN.{getD}
+use Rattle.model.specs.Bounds.{mostCells}
 use Rattle.model.specs.Grid.{slotsOf}
 use Rattle.model.specs.Trials.{cells}
 use Rattle.model.specs.Values.{problemOf}
@@ -17,7 +18,7 @@ use Rattle.layout.proofs.cells_of.Statement.{statement}
 use Rattle.layout.proofs.cells_of.Tie as tie
 
 abbrev Inv-loop : tie.InvT-loop
-Inv-loop book slots product₀ t₀ product t = (t ≤ book .slots) × (book .slots ≤ 4) × (product ≤ 1048576) × Counted (slotsOf (problemOf book)) (cells (problemOf book)) t product
+Inv-loop book slots product₀ t₀ product t = (t ≤ book .slots) × (book .slots ≤ 4) × (product ≤ mostCells) × Counted (slotsOf (problemOf book)) (cells (problemOf book)) t product
 
 abbrev μ-loop : tie.MeasureT-loop
 μ-loop book slots product₀ t₀ product t = book .slots - t

@@ -4,6 +4,7 @@ use mathlib.Core.Path.{_≡_, subst}
 use native.Mathlib.Omega.{arith}
 use borrow.Author.Needs.{needs}
 use lib.ListN.{getD}
+use Rattle.model.specs.Bounds.{mostCells}
 use Rattle.layout.specs.Layout.{Laid}
 use Rattle.layout.proofs.ExtentLaws.{Reach, reach-none, reach-more, back-one, rows-fit, columns-fit}
 use Rattle.layout.proofs.extent_of.Statement.{statement}
@@ -45,9 +46,9 @@ reach c l =
     (back-one (λ t. Reach (l .slots) t (m .rows) (m .width) (m .origin)) (m .t) (c .before .before .loop-test .taken) (m .inv .2 l))
 
 fits : (c : tie.After-wide Inv-loop μ-loop)
-    → (c .before .before .before .loop .rows * getD (c .before .before .before .before .args .t2 .tops) (c .before .before .before .loop .t - 1) 0 ≤ 1048576)
-    × (c .before .before .before .loop .width * getD (c .before .before .before .before .args .t2 .widths) (c .before .before .before .loop .t - 1) 0 ≤ 1048576)
-    × (c .before .before .before .loop .origin * getD (c .before .before .before .before .args .t2 .widths) (c .before .before .before .loop .t - 1) 0 + (getD (c .before .before .before .before .args .t2 .widths) (c .before .before .before .loop .t - 1) 0 - getD (c .before .before .before .before .args .t2 .tops) (c .before .before .before .loop .t - 1) 0) ≤ 1048576)
+    → (c .before .before .before .loop .rows * getD (c .before .before .before .before .args .t2 .tops) (c .before .before .before .loop .t - 1) 0 ≤ mostCells)
+    × (c .before .before .before .loop .width * getD (c .before .before .before .before .args .t2 .widths) (c .before .before .before .loop .t - 1) 0 ≤ mostCells)
+    × (c .before .before .before .loop .origin * getD (c .before .before .before .before .args .t2 .widths) (c .before .before .before .loop .t - 1) 0 + (getD (c .before .before .before .before .args .t2 .widths) (c .before .before .before .loop .t - 1) 0 - getD (c .before .before .before .before .args .t2 .tops) (c .before .before .before .loop .t - 1) 0) ≤ mostCells)
 fits c =
     let l = c .before .before .before .before .pre in
     let r = reach c l in

@@ -5,6 +5,7 @@ use mathlib.Core.List.{[]}
 use native.Mathlib.Omega.{arith}
 use borrow.Author.Needs.{needs}
 use lib.ListN.{getD, length, length-set}
+use Rattle.model.specs.Bounds.{mostLoads}
 use Rattle.model.specs.Values.{problemOf}
 use Rattle.model.proofs.HeldLaws.{held-few}
 use Rattle.search.specs.Search.{noMoves, movesOf, LoadIs}
@@ -16,7 +17,7 @@ use Rattle.layout.proofs.loads_of.Tie as tie
 
 abbrev Inv-loop : tie.InvT-loop
 Inv-loop slots book loads count moves₀ unit₀ k₀ moves unit k =
-    (k ≤ loads) × (loads ≤ 24) × (length moves ≡ 24) × (unit ≡ 4 ^ k)
+    (k ≤ loads) × (loads ≤ mostLoads) × (length moves ≡ mostLoads) × (unit ≡ 4 ^ k)
     × ((l : Laid slots (book .slots)) (i : ℕ) → i < k → LoadIs 0 (l .slots) i (getD (problemOf book .loads) i []) (movesOf moves i))
 
 abbrev μ-loop : tie.MeasureT-loop

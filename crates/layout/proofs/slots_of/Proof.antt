@@ -5,6 +5,7 @@ use native.Mathlib.Nat.{div-le-self}
 use native.Mathlib.Omega.{arith}
 use borrow.Author.Needs.{needs}
 use lib.ListN.{getD}
+use Rattle.model.specs.Bounds.{mostLoads}
 use Rattle.model.proofs.HeldLaws.{held-few, held-four, held-limit-small}
 use Rattle.layout.proofs.SlotLaws.{Filled, filled-none, filled-more, filled-all, count-some, fineness-some, fineness-few}
 use Rattle.layout.proofs.slots_of.Statement.{statement}
@@ -43,7 +44,7 @@ array-write-steps c = search needs
 
 -- R and N are small
 small : (c : tie.After-step-of Inv-loop μ-loop)
-    → (getD (c .before .before .before .before .args .book .limits) (c .before .before .loop .t) 0 / c .step-of .result ≤ 65535) × (c .before .before .before .before .args .book .count ≤ 24)
+    → (getD (c .before .before .before .before .args .book .limits) (c .before .before .loop .t) 0 / c .step-of .result ≤ 65535) × (c .before .before .before .before .args .book .count ≤ mostLoads)
 small c =
     let s = c .before .before .before .before in
     let limit = getD (s .args .book .limits) (c .before .before .loop .t) 0 in

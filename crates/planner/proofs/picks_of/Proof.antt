@@ -4,6 +4,7 @@ use mathlib.Core.Path.{_≡_, refl, sym, ap, _∙_}
 use mathlib.Core.List.{_++_, append-nil}
 use native.Mathlib.Nat.{sub-zero}
 use lib.ListN.{length, take, length-set}
+use Rattle.model.specs.Bounds.{mostLoads}
 use Rattle.model.specs.Choice.{decode}
 use borrow.Author.Needs.{needs}
 use native.Mathlib.Omega.{arith}
@@ -12,7 +13,7 @@ use Rattle.planner.proofs.picks_of.Statement.{statement}
 use Rattle.planner.proofs.picks_of.Tie as tie
 
 abbrev Inv-loop : tie.InvT-loop
-Inv-loop code count picks₀ rest₀ k₀ picks rest k = (k ≤ count) × (length picks ≡ 24) × (take k picks ++ decode (count - k) rest ≡ decode count code)
+Inv-loop code count picks₀ rest₀ k₀ picks rest k = (k ≤ count) × (length picks ≡ mostLoads) × (take k picks ++ decode (count - k) rest ≡ decode count code)
 
 abbrev μ-loop : tie.MeasureT-loop
 μ-loop code count picks₀ rest₀ k₀ picks rest k = count - k

@@ -6,6 +6,7 @@ use native.Mathlib.Omega.{arith}
 use Prim.Native.Nat.{ℕ, _≤_, _-_, _*_}
 use mathlib.Core.Path.{_≡_}
 use lib.ListN.{length, length-replicate}
+use Rattle.model.specs.Bounds.{mostRows}
 use Rattle.pass.specs.Pass.{EmptyFrom}
 use Rattle.pass.proofs.LayerLaws.{idle-more}
 use Rattle.search.specs.Search.{Modelled, Run}
@@ -16,7 +17,7 @@ use Rattle.search.proofs.run_loads.Tie as tie
 
 abbrev Inv-loop : tie.InvT-loop
 Inv-loop work₀ grid origin n budget moves cells lows₀ highs₀ newlows₀ newhighs₀ trials₀ reached₀ cur₀ used₀ k₀ work lows highs newlows newhighs trials reached cur used k =
-    (k ≤ n) × (trials ≤ k * 4194304) × (length newlows ≡ 724) × (length newhighs ≡ 724)
+    (k ≤ n) × (trials ≤ k * 4194304) × (length newlows ≡ mostRows) × (length newhighs ≡ mostRows)
     × (used ≤ grid .rows) × EmptyFrom lows highs used × EmptyFrom newlows newhighs used
     × ((m : Modelled grid origin n moves) → Run work₀ work lows highs grid origin n moves m k cur reached trials)
 
@@ -27,7 +28,7 @@ abbrev μ-loop : tie.MeasureT-loop
 loop-holds : tie.Need-loop-holds Inv-loop μ-loop
 loop-holds c =
     let p = c .before .pre in
-    (omega arith, omega arith, length-replicate {A = ℕ} 724 0, length-replicate {A = ℕ} 724 0, rows-one (p .1 .0), p .1 .1 .0, idle-zeros 1, p .1 .1 .1)
+    (omega arith, omega arith, length-replicate {A = ℕ} mostRows 0, length-replicate {A = ℕ} mostRows 0, rows-one (p .1 .0), p .1 .1 .0, idle-zeros 1, p .1 .1 .1)
 
 mul-load : tie.Need-mul-load Inv-loop μ-loop
 mul-load c = omega (arith, c .before .before .before .pre .1 .0 .loads-fit)

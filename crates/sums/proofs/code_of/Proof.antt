@@ -5,12 +5,13 @@ use lib.ListN.{getD}
 use Rattle.sums.proofs.PickLaws.{codeFrom, code-more, held-pick, held-code-small, held-code}
 use borrow.Author.Needs.{needs}
 use native.Mathlib.Omega.{arith}
+use Rattle.model.specs.Bounds.{mostLoads}
 use Rattle.model.proofs.HeldLaws.{held-few}
 use Rattle.sums.proofs.code_of.Statement.{statement}
 use Rattle.sums.proofs.code_of.Tie as tie
 
 abbrev Inv-loop : tie.InvT-loop
-Inv-loop picks code₀ k₀ code k = (k ≤ k₀) × (k₀ ≤ 24) × (code ≡ codeFrom picks k (k₀ - k))
+Inv-loop picks code₀ k₀ code k = (k ≤ k₀) × (k₀ ≤ mostLoads) × (code ≡ codeFrom picks k (k₀ - k))
 
 abbrev μ-loop : tie.MeasureT-loop
 μ-loop picks code₀ k₀ code k = k

@@ -2,6 +2,7 @@
 use mathlib.Core.Path.{_≡_, _∙_}
 use Prim.Native.Nat.{_-_, _≤_}
 use Rattle.model.specs.Values.{problemOf}
+use Rattle.model.specs.Bounds.{mostLoads}
 use Rattle.sums.specs.Sums.{sumsValue}
 use Rattle.sums.proofs.PickLaws.{picksUpto, held-can-add, held-sums, held-all}
 use borrow.Author.Needs.{needs}
@@ -11,7 +12,7 @@ use Rattle.sums.proofs.sums_of.Statement.{statement}
 use Rattle.sums.proofs.sums_of.Tie as tie
 
 abbrev Inv-loop : tie.InvT-loop
-Inv-loop book picks sums₀ k₀ sums k = (k ≤ book .count) × (book .count ≤ 24) × (sums ≡ sumsValue (picksUpto (problemOf book) picks k))
+Inv-loop book picks sums₀ k₀ sums k = (k ≤ book .count) × (book .count ≤ mostLoads) × (sums ≡ sumsValue (picksUpto (problemOf book) picks k))
 
 abbrev μ-loop : tie.MeasureT-loop
 μ-loop book picks sums₀ k₀ sums k = book .count - k

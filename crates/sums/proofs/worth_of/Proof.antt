@@ -5,6 +5,7 @@ use Prim.Native.Nat.{_-_, _≤_}
 use Rattle.model.specs.declared.Load.{Load}
 use Rattle.model.specs.Choice.{worthOf}
 use Rattle.model.specs.Values.{problemOf}
+use Rattle.model.specs.Bounds.{mostLoads}
 use Rattle.sums.proofs.PickLaws.{picksUpto, held-pick, held-worth, held-worth-small, held-all}
 use borrow.Author.Needs.{needs}
 use native.Mathlib.Omega.{arith}
@@ -17,7 +18,7 @@ abbrev noLoad : Load
 noLoad = record { settings = 0; worths = []; actives = []; reactives = [] }
 
 abbrev Inv-loop : tie.InvT-loop
-Inv-loop book picks worth₀ k₀ worth k = (k ≤ book .count) × (book .count ≤ 24) × (worth ≡ worthOf (picksUpto (problemOf book) picks k))
+Inv-loop book picks worth₀ k₀ worth k = (k ≤ book .count) × (book .count ≤ mostLoads) × (worth ≡ worthOf (picksUpto (problemOf book) picks k))
 
 abbrev μ-loop : tie.MeasureT-loop
 μ-loop book picks worth₀ k₀ worth k = book .count - k

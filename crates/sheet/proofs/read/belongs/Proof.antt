@@ -6,13 +6,14 @@ use lib.ListN.{replicate}
 use lib.Seq.{length-take-le}
 use native.Mathlib.Omega.{arith}
 use borrow.Author.Needs.{needs}
+use Rattle.model.specs.Bounds.{mostSheet}
 use Rattle.sheet.proofs.read.belongs.Statement.{statement}
 use Rattle.sheet.proofs.WriteLaws.{sheet-room, due-room, due-is}
 use Rattle.sheet.proofs.read.belongs.Tie as tie
 
 -- the array before the sheet is written
 abbrev zeros : List ℕ
-zeros = replicate 159 0
+zeros = replicate mostSheet 0
 
 sheet-length-requires : tie.Need-sheet-length-requires
 sheet-length-requires c κs = search needs

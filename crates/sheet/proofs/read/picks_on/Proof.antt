@@ -1,6 +1,7 @@
 -- `sheet::read::picks_on` meets its contract. The invariant: the numbers of the loads passed stand in the array. Assumes nothing.
 use mathlib.Core.Path.{refl}
 use Prim.Native.Nat.{_-_, _≤_}
+use Rattle.model.specs.Bounds.{mostLoads}
 use Rattle.model.specs.Values.{problemOf}
 use borrow.Author.Needs.{needs}
 use native.Mathlib.Omega.{arith}
@@ -10,7 +11,7 @@ use Rattle.sheet.proofs.ChoiceLaws.{ReadUpto, read-start, read-more, re
 use Rattle.sheet.proofs.read.picks_on.Tie as tie
 
 abbrev Inv-loop : tie.InvT-loop
-Inv-loop sheet book picks₀ k₀ picks k = (k ≤ book .count) × (book .count ≤ 24) × ReadUpto sheet (problemOf book) k picks
+Inv-loop sheet book picks₀ k₀ picks k = (k ≤ book .count) × (book .count ≤ mostLoads) × ReadUpto sheet (problemOf book) k picks
 
 abbrev μ-loop : tie.MeasureT-loop
 μ-loop sheet book picks₀ k₀ picks k = book .count - k
