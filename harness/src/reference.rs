@@ -12,7 +12,7 @@ use plan::{by_enumeration, by_map, Plan, ENUMERATED};
 use std::cell::OnceCell;
 
 /// The book of document 01, "Trials at the bench".
-pub const BENCH: &[u8] = b"0101030400000064000A\n0201000500050005\n020100050004FFFC\n0201000400040000\n";
+pub const EXAMPLE: &[u8] = b"0101030400000064000A\n0201000500050005\n020100050004FFFC\n0201000400040000\n";
 
 /// The most cells that a book may have.
 pub const MOST_CELLS: u128 = 1 << 20;
@@ -193,20 +193,20 @@ mod tests {
 
     #[test]
     fn the_bench_book() {
-        let outcome = Case::new(BENCH.to_vec()).plan(ENOUGH, ENOUGH);
+        let outcome = Case::new(EXAMPLE.to_vec()).plan(ENOUGH, ENOUGH);
         assert_eq!(outcome.sheet, b"040000000A0000000E010100\n050000000900000001000A\n");
         assert_eq!((outcome.answer.worth, outcome.answer.trials), (10, 14));
     }
 
     #[test]
     fn the_bench_book_planned_quickly() {
-        let outcome = Case::new(BENCH.to_vec()).quick(ENOUGH);
+        let outcome = Case::new(EXAMPLE.to_vec()).quick(ENOUGH);
         assert_eq!(outcome.sheet, b"040000000900000003000101\n0500000008FFFFFFFC000A\n");
     }
 
     #[test]
     fn budgets() {
-        let case = Case::new(BENCH.to_vec());
+        let case = Case::new(EXAMPLE.to_vec());
         let number = |budget| case.with_budget(budget).plan(ENOUGH, ENOUGH).answer.number;
         assert_eq!((number(14), number(13)), (0, 12));
     }
@@ -238,7 +238,7 @@ mod tests {
 
     #[test]
     fn a_sheet_is_read_back() {
-        let case = Case::new(BENCH.to_vec());
+        let case = Case::new(EXAMPLE.to_vec());
         let sheet = case.plan(ENOUGH, ENOUGH).sheet;
         let answer = case.read_sheet(&sheet).answer;
         assert_eq!(

@@ -3,7 +3,7 @@
 use crate::call::{lend_bytes, lend_words, Call, Function};
 use crate::kinds;
 use crate::random::Random;
-use crate::reference::{Case, Outcome, BENCH};
+use crate::reference::{Case, Outcome, EXAMPLE};
 use crate::session::Session;
 
 /// The words that the bench book needs: L = 1 and R = 10, so cells are 11 × 24.
@@ -124,8 +124,8 @@ fn check_session(checks: &mut Checks, name: &str, alter: fn(&mut Call)) {
 
 /// Each call with and without a refusal, on memory with guards.
 fn bases() -> Vec<Base> {
-    let good = Case::new(BENCH.to_vec());
-    let unterminated = Case::new(BENCH[..BENCH.len() - 1].to_vec());
+    let good = Case::new(EXAMPLE.to_vec());
+    let unterminated = Case::new(EXAMPLE[..EXAMPLE.len() - 1].to_vec());
     let budget_exceeded = good.with_budget(13);
     let sheet = good.plan(NEED, BUFFER).sheet;
     let foreign_sheet = [b"04", &sheet[..]].concat();

@@ -20,6 +20,7 @@ use Rattle.model.specs.Bounds.{mostLoads}
 use Rattle.model.specs.Frames.{field, lineLength, lineOf, afterLine}
 use Rattle.model.specs.Refusals.{Result, refused, done, first, checked, andThen}
 use Rattle.model.specs.Book.{Settings, Problem, headerRules, readBook, slotCount, loadCount, finenessIn, budgetIn, limitsIn, problem, settings, lineRule, loadRules, endRules, readLoads}
+use Rattle.model.specs.Answers.{answerOf, bytesOnly}
 use Rattle.model.specs.Values.{loadValue, bookValue, freshBook, readingOf}
 use Rattle.model.proofs.UptoLaws.{length-upto, set-upto}
 use Rattle.model.proofs.IntegerLaws.{split}
@@ -193,7 +194,7 @@ module _ (line : List ℕ) (read : Result (List Settings)) where
           → record { answer = loadsReading x .answer; book = bookWith (loadsReading x .loads) } ≡ readingOf (andThen x (λ loads. done (problem line loads)))
       go (refused r number) e h = absurd (number-some r h)
       go (done loads) e h = λ i. record {
-        answer = record { number = 0; line = 0; bytes = 0; worth = 0; trials = 0 };
+        answer = answerOf (done (bytesOnly []));
         book = record {
           slots = sym (length-upto (λ s. field line (16 + 4 * s) 4) (slotCount line)) i;
           count = sym (many loads e) i;

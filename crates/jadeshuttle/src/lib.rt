@@ -4,11 +4,11 @@ use model::SheetAnswer;
 ghost use mathlib.Core.Path.{_≡_};
 ghost use lib.ListN.{length};
 ghost use Rattle.model.specs.Trials.{WordsKept};
+ghost use Rattle.model.specs.Answers.{Writes};
 ghost use Rattle.model.specs.Calls.{plannerResult, freeWords};
-ghost use Rattle.model.specs.Demand.{Demand3};
 ghost use Rattle.model.specs.Quick.{quickResult};
 ghost use Rattle.model.specs.SheetReader.{readerResult, sheetAnswerOf};
-ghost use Rattle.model.specs.Answers.{Writes};
+ghost use Rattle.model.specs.Demand.{Demand3};
 
 // The planner: the sheet of the plan, or the first refusal of 1 to 12.
 #[no_mangle]

@@ -4,6 +4,7 @@ pub mod UptoLaws
 pub mod IntegerLaws
 pub mod FrameLaws
 pub mod RefusalLaws
+pub mod AnswerLaws
 pub mod ChoiceLaws
 pub mod OrderLaws
 pub mod Squares

@@ -8,7 +8,7 @@ use Prim.Native.Nat.{ℕ, zero, suc, _*_, _<_, _≤_}
 use native.Mathlib.Nat.{le-of-suc-le-suc}
 use native.Mathlib.Omega.{arith}
 use lib.Dec.{T, leb, eqb}
-use lib.ListN.{length, getD, take, length-append}
+use lib.ListN.{length, getD, take, set, length-append}
 use borrow.Author.Tests.{leb-true, eqb-true, eq-eqb}
 use Rattle.model.specs.Lists.{within, Mem, Every, keep, keepIf, all, any, concat, sameLists}
 
@@ -161,3 +161,8 @@ same-eq (x ∷ xs) (y ∷ ys) e =
 pub same-refl : (xs : List ℕ) → sameLists eqb xs xs ≡ true
 same-refl [] = refl
 same-refl (x ∷ xs) = ap₂ _&&_ (eq-eqb x x refl) (same-refl xs)
+
+pub every-set : {A : Type 0} (P : A → Type 0) (xs : List A) (k : ℕ) (x : A) → Every P xs → P x → Every P (set xs k x)
+every-set P [] k x h p = tt
+every-set P (y ∷ ys) zero x h p = (p, h .1)
+every-set P (y ∷ ys) (suc k) x h p = (h .0, every-set P ys k x (h .1) p)

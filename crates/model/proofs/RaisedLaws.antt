@@ -5,8 +5,7 @@ use mathlib.Core.Logic.{_⊎_, inl, inr}
 use Prim.Native.Nat.{ℕ, _+_, _-_, _*_, _<_, _≤_}
 use native.Mathlib.Omega.{arith}
 use lib.IntN.{ℤ, pos, negsuc, natAbs, subℕ, _+ℤ_}
-use Rattle.model.specs.Values.{raised}
-use Rattle.model.specs.Values.{raisedBy}
+use Rattle.model.specs.Values.{raised, raisedBy}
 use Rattle.model.specs.Index.{up, down}
 use Rattle.model.proofs.IntegerLaws.{split, sub-pos, sub-neg, sub-same, sub-add, as-sub, abs-is, abs-sub}
 

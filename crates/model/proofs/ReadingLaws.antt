@@ -1,28 +1,16 @@
 -- What a caller of the book reader knows of its value: a book that was read is held, and a refusal is the caller's own answer.
 -- Assumes nothing.
-use mathlib.Core.Path.{_≡_, refl, sym, ap, subst, _∙_}
+use mathlib.Core.Path.{_≡_, refl, sym, ap, subst}
 use mathlib.Core.List.{List}
 use Prim.Native.Nat.{ℕ}
-use Rattle.model.specs.declared.Answer.{Answer}
 use Rattle.model.specs.declared.Reading.{Reading}
-use Rattle.model.specs.declared.Refusal.{Refusal}
 use Rattle.model.specs.Refusals.{Result, refused, done, andThen}
-use Rattle.model.specs.Answers.{Output, refusalAnswer, answerOf, bufferAfter, Writes}
+use Rattle.model.specs.Answers.{Output, Writes}
 use Rattle.model.specs.Book.{Problem, readBook}
 use Rattle.model.specs.Values.{Held, problemOf, readingOf}
 use Rattle.model.proofs.RefusalLaws.{number-some}
 use Rattle.model.proofs.ValidLaws.{book-valid}
 use Rattle.model.proofs.ValueLaws.{book-kept}
-
--- of equal results the same is written
-pub writes-same : {x y : Result Output} {before after : List ℕ} {a : Answer} → x ≡ y → Writes x before after a → Writes y before after a
-writes-same {before = before} e w = record { answers = w .answers ∙ ap answerOf e; leaves = w .leaves ∙ ap (λ z. bufferAfter z before) e }
-
--- a refusal leaves the buffer as it was
-pub refused-writes : (x : Result Output) (r : Refusal) (line : ℕ) (before : List ℕ) (a : Answer) → a ≡ refusalAnswer r line → x ≡ refused r line
-    → Writes x before before a
-refused-writes x r line before a e q =
-    record { answers = e ∙ ap answerOf (sym q); leaves = ap (λ y. bufferAfter y before) (sym q) }
 
 module _ (bytes : List ℕ) (v : Reading) (is : v ≡ readingOf (readBook bytes)) where
   pub reading-held : v .answer .number ≡ 0 → Held (v .book)

@@ -342,7 +342,8 @@ cell-bounded top r slots loads h i =
     (λ c e q. (subst (λ n. worthOf c ≤ top * n) e (choice-worth top c q), subst (λ n. codeOf c < 4 ^ n) e (choice-code top c q)))
     h)
 
--- a book has at most half as many rows as columns, so a table of 1,048,576 cells has at most 724 rows
+-- ---- few rows: at most half as many as columns, and so within their bound (specs/Bounds, `mostRows`)
+
 wide : (r a l : ℕ) → 0 < l → 2 * (a + 1) ≤ 2 * suc r * a + (2 * suc r - 1) * l + 1
 wide r a l h =
     let one : 1 ≤ suc r = omega arith in

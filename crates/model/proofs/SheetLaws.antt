@@ -16,12 +16,12 @@ use Rattle.model.specs.declared.Refusal.the-variants.{ForeignSheet}
 use Rattle.model.specs.declared.Finding.the-variants.{Passed}
 use Rattle.model.specs.Lists.{Mem, Every, sameLists}
 use Rattle.model.specs.Frames.{digits, field}
-use Rattle.model.specs.Refusals.{Result, done, Rule, _⇒_, first, checked, andThen}
+use Rattle.model.specs.Refusals.{Result, done, first, checked, andThen}
 use Rattle.model.specs.Book.{Power, Setting, Settings, Problem, readBook}
 use Rattle.model.specs.Choice.{Choice, IsChoice, worthOf, codeOf, sumIn, noSetting, settingNumbered}
 use Rattle.model.specs.Grid.{Slot, slotsFrom, slotsOf}
 use Rattle.model.specs.Sheet.{lf, numbersOf, firstLine, slotLine, slotLines, sheetBytes, sheetLength}
-use Rattle.model.specs.SheetReader.{SheetOf, SheetData, consBoth, choiceFrom, trialsOn, ifBelongs, sheetChoice, sheetData, readerResult}
+use Rattle.model.specs.SheetReader.{foreignRules, SheetOf, SheetData, consBoth, choiceFrom, trialsOn, ifBelongs, sheetChoice, sheetData, readerResult}
 use Rattle.model.specs.Valid.{Numbered, Labelled}
 use Rattle.model.proofs.ListLaws.{length-concat, same-eq, same-refl}
 use Rattle.model.proofs.FrameLaws.{length-digits, field-back, field-below}
@@ -183,10 +183,6 @@ choice-back bytes k (vs ∷ loads) (v ∷ c) m h e =
 abbrev pub dataOf : Choice → ℕ → SheetData
 dataOf c t = record { code = codeOf c; worth = worthOf c; trials = t }
 
--- the rule that the reader tries, for a choice and trials
-abbrev foreign : Problem → List ℕ → Choice → ℕ → List Rule
-foreign b sheet c t = (not (sameLists eqb sheet (sheetBytes b c t)) ⇒ ForeignSheet) ∷ []
-
 module _ (sheet : List ℕ) (b : Problem) where
   -- of the sheet of a choice and trials, both are read back
   module _ (s : SheetOf b sheet) where
@@ -203,8 +199,8 @@ module _ (sheet : List ℕ) (b : Problem) where
         (choice-back sheet 0 (b .loads) (s .choice) (s .of-book) labels
         (λ j l. ap (λ i. field sheet (18 + 2 * i) 2) (zero-add j)
         ∙ numbers-on b (s .choice) (s .trials) sheet [] plain (numbers-small (b .loads) (s .choice) labels (s .of-book)) noSetting j l))
-        ∙ ap (λ n. checked 0 (first (foreign b sheet (s .choice) n)) (done (s .choice))) trials-back
-        ∙ ap (λ f. checked 0 f (done (s .choice))) (first-none (foreign b sheet (s .choice) (s .trials)) (ap not own, tt))
+        ∙ ap (λ n. checked 0 (first (foreignRules b sheet (s .choice) n)) (done (s .choice))) trials-back
+        ∙ ap (λ f. checked 0 f (done (s .choice))) (first-none (foreignRules b sheet (s .choice) (s .trials)) (ap not own, tt))
       where
         own : sameLists eqb sheet (sheetBytes b (s .choice) (s .trials)) ≡ true
         own = ap (sameLists eqb sheet) (sym (s .bytes)) ∙ same-refl sheet
@@ -218,15 +214,15 @@ module _ (sheet : List ℕ) (b : Problem) where
           → (s : SheetOf b sheet) × (s .choice ≡ c) × (s .trials ≡ trialsOn sheet)
       go none p q = absurd (refused-done ForeignSheet 0 c q)
       go (some d) p q =
-          let k : (first (foreign b sheet d (trialsOn sheet)) ≡ Passed) × (Path (Result Choice) (done d) (done c))
-          = checked-done 0 (first (foreign b sheet d (trialsOn sheet))) (done d) c q in (
+          let k : (first (foreignRules b sheet d (trialsOn sheet)) ≡ Passed) × (Path (Result Choice) (done d) (done c))
+          = checked-done 0 (first (foreignRules b sheet d (trialsOn sheet))) (done d) c q in (
             record {
               choice = d;
               of-book = choice-is sheet 0 (b .loads) d p;
               trials = trialsOn sheet;
               bound = field-below sheet 10 8;
               bytes = same-eq sheet (sheetBytes b d (trialsOn sheet))
-                  (not-false (sameLists eqb sheet (sheetBytes b d (trialsOn sheet))) (first-passed (foreign b sheet d (trialsOn sheet)) (k .0) .0));
+                  (not-false (sameLists eqb sheet (sheetBytes b d (trialsOn sheet))) (first-passed (foreignRules b sheet d (trialsOn sheet)) (k .0) .0));
             },
             done-same d c (k .1),
             refl,

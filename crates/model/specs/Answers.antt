@@ -42,6 +42,6 @@ pub record Writes (result : Result Output) (before after : List ℕ) (answer : A
   pub answers : answer ≡ answerOf result
   pub leaves : after ≡ bufferAfter result before
 
--- 11: "buffer shorter than the sheet", of so many bytes to be written and room for so many
+-- 11: "buffer shorter than the sheet", where so many bytes are due and there is room for so many
 abbrev pub roomRule : ℕ → ℕ → Rule
-roomRule length room = ltb room length ⇒ BufferTooSmall
+roomRule due room = ltb room due ⇒ BufferTooSmall

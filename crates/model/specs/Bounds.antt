@@ -1,4 +1,5 @@
--- Document 01's bounds and the sizes that follow from them, each number once. The code has the same numbers as constants of the declared types.
+-- Document 01's bounds and the sizes that follow from them, each number once. The code has them as constants of the types that they bound, and the
+-- program's two in crate program.
 use Prim.Native.Nat.{ℕ, _*_, _+_}
 
 -- "T is the number of slots (quarter hours), 1 to 4. N is the number of loads, 1 to 24. d, the fineness, is 1 to 64. o, the options (levels) of a

@@ -6,11 +6,11 @@ use lib.Dec.{ltb}
 use Rattle.model.specs.declared.Refusal.the-variants.{TooManyCells, WorkTooSmall, BudgetExceeded}
 use Rattle.model.specs.Bounds.{mostCells}
 use Rattle.model.specs.Refusals.{Result, refused, done, Rule, _⇒_, first, checked, andThen}
-use Rattle.model.specs.Answers.{Output, roomRule}
 use Rattle.model.specs.Book.{Problem, readBook}
 use Rattle.model.specs.Choice.{Choice}
 use Rattle.model.specs.Grid.{plan}
 use Rattle.model.specs.Trials.{cells, neededWords, trials}
+use Rattle.model.specs.Answers.{Output, roomRule}
 use Rattle.model.specs.Sheet.{sheetOf, sheetLength}
 
 -- "Then 8 to 13", with line 0. 9: "cells over 1,048,576"; 10: "work area under 4 × cells words"; 11: "buffer shorter than the sheet"

@@ -12,7 +12,7 @@ use Rattle.model.specs.Grid.{Slot, gridOf, gridsOf, admits}
 use Rattle.model.specs.Trials.{gridTop}
 use Rattle.model.specs.Index.{indexOf}
 
--- ---- the order of choices
+-- ---- keys
 
 -- a choice's worth and code
 pub record Key : Type 0 where
@@ -22,7 +22,7 @@ pub record Key : Type 0 where
 abbrev pub choiceKey : Choice → Key
 choiceKey c = record { worth = worthOf c; code = codeOf c }
 
--- y is of greater worth than x, or of the same worth and smaller code
+-- the order of `better`: y is of greater worth than x, or of the same worth and smaller code (proofs/RecurrenceLaws, `best-key`)
 abbrev pub beats : Key → Key → Bool
 beats y x = ltb (x .worth) (y .worth) || (eqb (x .worth) (y .worth) && ltb (y .code) (x .code))
 
@@ -45,6 +45,8 @@ bestKey (x ∷ xs) = join (some x) (bestKey xs)
 abbrev pub joinUpto : ℕ → (ℕ → Option Key) → Option Key
 joinUpto zero f = none
 joinUpto (suc n) f = join (joinUpto n f) (f n)
+
+-- ---- keys and marks of cells
 
 -- a worth and a code added to a key
 abbrev pub shift : ℕ → ℕ → Key → Key
@@ -77,13 +79,13 @@ settingGrid s v = gridOf (s .step) (powerIn (s .place) v)
 abbrev pub settingGrids : List Slot → Setting → List Power
 settingGrids slots v = map (λ s. settingGrid s v) slots
 
--- every slot admits its pair
+-- every slot admits its pair, as `admitted` has it of a choice (proofs/RecurrenceLaws, `admitted-grids`)
 abbrev pub admitsAll : List Slot → List Power → Bool
 admitsAll [] gs = true
 admitsAll (s ∷ slots) [] = true
 admitsAll (s ∷ slots) (g ∷ gs) = admits s g && admitsAll slots gs
 
--- every pair has a ≤ R
+-- every pair has a ≤ R, as `inRange` has it of a choice (proofs/TableLaws, `range-grids`)
 abbrev pub rangeAll : List Slot → List Power → Bool
 rangeAll [] gs = true
 rangeAll (s ∷ slots) [] = true

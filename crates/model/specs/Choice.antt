@@ -50,10 +50,11 @@ abbrev pub settingNumbered : ℕ → Settings → Option Setting
 settingNumbered n [] = none
 settingNumbered n (v ∷ vs) = cond (eqb (v .number) n) (some v) (settingNumbered n vs)
 
--- the first setting of a load; every load that is read has one
+-- what stands for a setting that a load does not have
 abbrev pub noSetting : Setting
 noSetting = record { number = 0; worth = 0; powers = [] }
 
+-- the first setting of a load; every load that is read has one
 abbrev pub firstSetting : Settings → Setting
 firstSetting [] = noSetting
 firstSetting (v ∷ vs) = v

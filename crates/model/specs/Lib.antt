@@ -1,16 +1,16 @@
--- What the product means: document 01, section by section; Refusals and Answers stand before Book, which uses them. Demand is the buyer's demand 3.
--- Lists, Bounds, Valid, Values, Index and Cells are no section of it: functions on lists, the bounds by name, what is known of a book that was read, what the values of the
--- declared types hold, and the table that the search fills.
+-- What the product means: document 01, section by section; Refusals stands before Book, which uses it. Demand is the buyer's demand 3. Lists, Bounds,
+-- Valid, Values, Index and Cells are no section of it: functions on lists, the bounds by name, what is known of a book that was read, what the values
+-- of the declared types hold, and the table that the search fills.
 -- Of document 02: Rounding (M-102), and a field of Demand3 (M-106).
 pub mod Lists
 pub mod Bounds
 pub mod Frames
 pub mod Refusals
-pub mod Answers
 pub mod Book
 pub mod Choice
 pub mod Grid
 pub mod Trials
+pub mod Answers
 pub mod Sheet
 pub mod Calls
 pub mod Quick

@@ -4,10 +4,10 @@ use mathlib.Core.List.{List, [], _∷_, _++_, map}
 use lib.ListN.{length}
 use Rattle.model.specs.Lists.{concat}
 use Rattle.model.specs.Frames.{digits, unsigned}
-use Rattle.model.specs.Answers.{Output}
 use Rattle.model.specs.Book.{Power, Problem}
 use Rattle.model.specs.Choice.{Choice, worthOf, sumIn}
 use Rattle.model.specs.Grid.{Slot, slotsOf}
+use Rattle.model.specs.Answers.{Output}
 
 -- "each line ended by one LF"
 abbrev pub lf : List ℕ

@@ -9,7 +9,7 @@ use Rattle.model.specs.declared.SheetAnswer.{SheetAnswer}
 use Rattle.model.specs.declared.Refusal.the-variants.{ForeignSheet}
 use Rattle.model.specs.Lists.{sameLists}
 use Rattle.model.specs.Frames.{field}
-use Rattle.model.specs.Refusals.{Result, refused, done, _⇒_, first, checked, andThen}
+use Rattle.model.specs.Refusals.{Result, refused, done, Rule, _⇒_, first, checked, andThen}
 use Rattle.model.specs.Answers.{successAnswer, refusalAnswer}
 use Rattle.model.specs.Book.{Setting, Settings, Problem, readBook}
 use Rattle.model.specs.Choice.{Choice, IsChoice, codeOf, worthOf, settingNumbered}
@@ -43,12 +43,15 @@ choiceFrom sheet k (vs ∷ loads) = consBoth (settingNumbered (field sheet (18 +
 abbrev pub trialsOn : List ℕ → ℕ
 trialsOn sheet = field sheet 10 8
 
+-- 13: the sheet's bytes are not those of a choice and a number of trials
+abbrev pub foreignRules : Problem → List ℕ → Choice → ℕ → List Rule
+foreignRules b sheet c t = (not (sameLists eqb sheet (sheetBytes b c t)) ⇒ ForeignSheet) ∷ []
+
 -- 13, unless the sheet's bytes are those that the choice and the trials on its own first line give; that is so exactly where there is a `SheetOf`
 -- (proofs/SheetLaws, `reader-accepts` and `reader-only`)
 abbrev pub ifBelongs : List ℕ → Problem → Option Choice → Result Choice
 ifBelongs sheet b none = refused ForeignSheet 0
-ifBelongs sheet b (some c) =
-    checked 0 (first ((not (sameLists eqb sheet (sheetBytes b c (trialsOn sheet))) ⇒ ForeignSheet) ∷ [])) (done c)
+ifBelongs sheet b (some c) = checked 0 (first (foreignRules b sheet c (trialsOn sheet))) (done c)
 
 -- the choice on a sheet that belongs to the book
 unfoldable pub sheetChoice : List ℕ → Problem → Result Choice

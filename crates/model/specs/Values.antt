@@ -4,16 +4,16 @@ use mathlib.Core.Path.{_≡_}
 use mathlib.Core.List.{List, [], map}
 use lib.IntN.{ℤ, pos, negsuc, subℕ}
 use lib.ListN.{length, getD, take, replicate}
-use Rattle.model.specs.declared.Load.{Load}
 use Rattle.model.specs.declared.Book.{Book}
+use Rattle.model.specs.declared.Load.{Load}
 use Rattle.model.specs.declared.Reading.{Reading}
 use Rattle.model.specs.Lists.{upto}
+use Rattle.model.specs.Bounds.{mostSlots, mostLoads, mostSettings, mostPowers}
 use Rattle.model.specs.Refusals.{Result, refused, done}
-use Rattle.model.specs.Answers.{bytesOnly, refusalAnswer, answerOf}
 use Rattle.model.specs.Book.{Power, Setting, Settings, Problem}
 use Rattle.model.specs.Choice.{Choice, powerIn, noSetting}
+use Rattle.model.specs.Answers.{bytesOnly, refusalAnswer, answerOf}
 use Rattle.model.specs.Valid.{ValidBook}
-use Rattle.model.specs.Bounds.{mostSlots, mostLoads, mostSettings, mostPowers}
 
 -- Q + 32,768, which is not negative for a Q of 16 bits
 unfoldable pub raised : ℤ → ℕ

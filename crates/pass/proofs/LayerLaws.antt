@@ -280,35 +280,35 @@ layer-total width f h k e = rw (le-antisymm h k) at e
 pub below : {grid : Grid} {load : LoadMoves} {used rows row : ℕ} → Reaches grid load used rows → row < rows → row < grid .rows
 below f l = omega (arith, f .fits)
 
-pub idle-more : {lows highs : List ℕ} {used used′ : ℕ} → used ≤ used′ → EmptyFrom lows highs used → EmptyFrom lows highs used′
-idle-more h i = record { no-low = λ row l. i .no-low row (omega arith); no-high = λ row l. i .no-high row (omega arith) }
+pub empty-more : {lows highs : List ℕ} {used used′ : ℕ} → used ≤ used′ → EmptyFrom lows highs used → EmptyFrom lows highs used′
+empty-more h i = record { no-low = λ row l. i .no-low row (omega arith); no-high = λ row l. i .no-high row (omega arith) }
 
-pub idle-set : {lows highs : List ℕ} {rows : ℕ} (row a b : ℕ) → row < rows → EmptyFrom lows highs rows → EmptyFrom (set lows row a) (set highs row b) rows
-idle-set {lows} {highs} row a b l i = record {
+pub empty-set-row : {lows highs : List ℕ} {rows : ℕ} (row a b : ℕ) → row < rows → EmptyFrom lows highs rows → EmptyFrom (set lows row a) (set highs row b) rows
+empty-set-row {lows} {highs} row a b l i = record {
   no-low = λ j h. getD-set-other lows row j a 0 (λ e. omega arith) ∙ i .no-low j h;
   no-high = λ j h. getD-set-other highs row j b 0 (λ e. omega arith) ∙ i .no-high j h;
 }
 
 module _ {ws ws′ lows highs lows′ highs′ : List ℕ} {grid : Grid} {cur next : ℕ} {load : LoadMoves} {used rows : ℕ}
-    (idle : EmptyFrom lows highs used) (idle′ : EmptyFrom lows′ highs′ rows) (far : Reaches grid load used rows)
+    (blank : EmptyFrom lows highs used) (blank′ : EmptyFrom lows′ highs′ rows) (far : Reaches grid load used rows)
     (r : LayerMade ws ws′ lows highs lows′ highs′ grid cur next load rows) where
   -- nothing is held in such a row, and nothing comes to it
   rest-none : (row col : ℕ) → rows ≤ row → held ws′ lows′ highs′ next (grid .width) row col ≡ none
   unfolding held
-  rest-none row col h = rw (idle′ .no-low row h, idle′ .no-high row h) (held-high ws′ (next + row * grid .width) 0 0 col (omega arith))
+  rest-none row col h = rw (blank′ .no-low row h, blank′ .no-high row h) (held-high ws′ (next + row * grid .width) 0 0 col (omega arith))
 
   rest-offers : (row col : ℕ) → rows ≤ row → row < grid .rows → joinUpto (load .count) (offerOf ws lows highs grid cur load row col) ≡ none
   rest-offers row col h l =
       offers-none ws lows highs grid cur load row col
-      (λ m k o. let f = far .far m k row h l in let z = idle .no-high (row - moveOf load m .back) (omega arith) in omega (arith, o .from-low, o .to-high))
+      (λ m k o. let f = far .far m k row h l in let z = blank .no-high (row - moveOf load m .back) (omega arith) in omega (arith, o .from-low, o .to-high))
 
   pub layer-rest : LayerMade ws ws′ lows highs lows′ highs′ grid cur next load (grid .rows)
   layer-rest = record {
     same-length = r .same-length;
     low-length = r .low-length;
     high-length = r .high-length;
-    low-fits = λ row l. ⊎-elim (r .low-fits row) (λ (h : rows ≤ row). omega (arith, idle′ .no-low row h)) (split row rows);
-    high-fits = λ row l. ⊎-elim (r .high-fits row) (λ (h : rows ≤ row). omega (arith, idle′ .no-high row h)) (split row rows);
+    low-fits = λ row l. ⊎-elim (r .low-fits row) (λ (h : rows ≤ row). omega (arith, blank′ .no-low row h)) (split row rows);
+    high-fits = λ row l. ⊎-elim (r .high-fits row) (λ (h : rows ≤ row). omega (arith, blank′ .no-high row h)) (split row rows);
     inside = λ row col l k. ⊎-elim
         (λ (h : row < rows). r .inside row col h k)
         (λ (h : rows ≤ row). rest-none row col h ∙ sym (rest-offers row col h l))

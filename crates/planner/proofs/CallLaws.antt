@@ -19,8 +19,8 @@ use Rattle.model.specs.Sheet.{sheetOf, sheetLength}
 use Rattle.model.specs.Calls.{sizeRules, fitting, fittingBook, choiceOr, planSheet, plannerResult, freeFor, freeWords}
 use Rattle.model.specs.Answers.{Output, refusalAnswer, Writes}
 use Rattle.model.specs.Bounds.{mostCells}
-use Rattle.model.proofs.ReadingLaws.{refused-writes}
 use Rattle.model.proofs.RefusalLaws.{first-here, first-next, first-last}
+use Rattle.model.proofs.AnswerLaws.{refused-writes}
 use Rattle.planner.specs.Planner.{fittedPlan}
 
 module _ {A B C : Type 0} where

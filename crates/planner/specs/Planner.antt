@@ -4,11 +4,11 @@ use mathlib.Core.Path.{_≡_}
 use mathlib.Core.Bool.{true, false}
 use mathlib.Core.Option.{some}
 use Rattle.model.specs.Refusals.{Result, andThen}
-use Rattle.model.specs.Answers.{Output}
 use Rattle.model.specs.Book.{Problem}
 use Rattle.model.specs.Choice.{Choice, codeOf}
 use Rattle.model.specs.Grid.{plan}
 use Rattle.model.specs.Trials.{trials}
+use Rattle.model.specs.Answers.{Output}
 use Rattle.model.specs.Calls.{fitting, planSheet}
 use Rattle.planner.specs.declared.Search.{Search}
 

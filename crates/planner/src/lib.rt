@@ -7,17 +7,17 @@ use model::Refusal;
 ghost use mathlib.Core.Path.{_≡_};
 ghost use Prim.Native.Nat.{_≤_};
 ghost use lib.ListN.{length, take};
+ghost use Rattle.model.specs.Bounds.{mostLoads};
+ghost use Rattle.model.specs.Choice.{decode};
 ghost use Rattle.model.specs.Grid.{slotsOf};
 ghost use Rattle.model.specs.Trials.{neededWords, WordsKept};
-ghost use Rattle.layout.specs.Layout.{LayoutIs};
+ghost use Rattle.model.specs.Answers.{Writes};
 ghost use Rattle.model.specs.Sheet.{sheetLength};
 ghost use Rattle.model.specs.Calls.{planSheet, plannerResult, fitting, freeFor, freeWords};
 ghost use Rattle.model.specs.Demand.{Demand3};
 ghost use Rattle.model.specs.Values.{Held, problemOf};
-ghost use Rattle.model.specs.Choice.{decode};
-ghost use Rattle.model.specs.Answers.{Writes};
-ghost use Rattle.model.specs.Bounds.{mostLoads};
 ghost use Rattle.search.specs.Search.{SlotsIn};
+ghost use Rattle.layout.specs.Layout.{LayoutIs};
 ghost use Rattle.planner.specs.Planner.{Found, fittedPlan};
 
 // Whether the trials are within the budget; if so, their number and the code of the plan.

@@ -8,8 +8,8 @@ use lib.ListN.{length}
 use borrow.Author.Tests.{lt-ltb, le-ltb}
 use Rattle.model.specs.declared.Refusal.the-variants.{BufferTooSmall}
 use Rattle.model.specs.Refusals.{Result, refused, done, checked}
-use Rattle.model.specs.Answers.{Output}
 use Rattle.model.specs.Book.{Problem}
+use Rattle.model.specs.Answers.{Output}
 use Rattle.model.specs.Sheet.{sheetOf, sheetLength}
 use Rattle.model.specs.Quick.{quickChoice, quickSheet}
 use Rattle.model.specs.Values.{choiceOf}

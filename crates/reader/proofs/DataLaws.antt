@@ -13,7 +13,7 @@ use Rattle.model.specs.SheetReader.{trialsOn, sheetData, readerResult, sheetAns
 use Rattle.model.specs.Values.{readingOf, choiceOf}
 use Rattle.model.proofs.SheetLaws.{dataOf}
 use Rattle.sheet.specs.declared.read.SheetPicks.{SheetPicks}
-use Rattle.sheet.specs.FirstLine.{ChoiceOn}
+use Rattle.sheet.specs.Found.{ChoiceOn}
 
 -- ---- the sheet reader's result for one book
 

@@ -89,12 +89,12 @@ module _ {grid : Grid} {origin n : ℕ} {moves : List LoadMoves} (m : Modelled g
 
   -- row 0 holds the origin alone, and every other row nothing
   module _ (ws ws₀ lows highs : List ℕ) (put : ws ≡ putAt ws₀ origin firstCell) (room : 2 * origin + 1 < length ws₀)
-      (low-first : getD lows 0 0 ≡ origin) (high-first : getD highs 0 0 ≡ origin + 1) (idle : EmptyFrom lows highs 1) where
+      (low-first : getD lows 0 0 ≡ origin) (high-first : getD highs 0 0 ≡ origin + 1) (blank : EmptyFrom lows highs 1) where
     low-rest : (row : ℕ) → getD lows (suc row) 0 ≡ 0
-    low-rest row = idle .no-low (suc row) (omega arith)
+    low-rest row = blank .no-low (suc row) (omega arith)
 
     high-rest : (row : ℕ) → getD highs (suc row) 0 ≡ 0
-    high-rest row = idle .no-high (suc row) (omega arith)
+    high-rest row = blank .no-high (suc row) (omega arith)
 
     first-row : (col : ℕ) → held ws lows highs 0 (grid .width) 0 col ≡ firstKey origin (0 * grid .width + col)
     unfolding held
@@ -150,7 +150,7 @@ module _ {grid : Grid} {origin n : ℕ} {moves : List LoadMoves} (m : Modelled g
         high-length = b;
         low-fits = first-low;
         high-fits = first-high;
-        beyond = λ x h. refl;
+        past = λ x h. refl;
       };
       layer = layer-first;
       reached-is = λ _. sym (layer-count m layer-first ∙ sym (reached-cells (m .r) n (m .slots) [] (ready-take (m .r) n (m .slots) (m .loads) 0 (m .ready))) ∙ reached-none (m .slots));
@@ -199,7 +199,7 @@ module _ {grid : Grid} {origin n : ℕ} {moves : List LoadMoves} (m : Modelled g
         high-length = made .high-length;
         low-fits = made .low-fits;
         high-fits = made .high-fits;
-        beyond = λ x h. made .outside x (λ y a b. omega (arith, run-cur, grid-fits m .area)) ∙ run .places .beyond x h;
+        past = λ x h. made .outside x (λ y a b. omega (arith, run-cur, grid-fits m .area)) ∙ run .places .past x h;
       };
       layer = layer-next m l (run .layer) made;
       reached-is = c;
@@ -249,11 +249,11 @@ set-rest v row l = getD-set-other (replicate mostRows 0) 0 row v 0 (λ e. omega 
 pub set-long : (v : ℕ) → length (set (replicate mostRows 0) 0 v) ≡ mostRows
 set-long v = length-set (replicate mostRows 0) 0 v ∙ length-replicate {A = ℕ} mostRows 0
 
-pub idle-zeros : (used : ℕ) → EmptyFrom (replicate mostRows 0) (replicate mostRows 0) used
-idle-zeros used = record { no-low = λ row l. zeros mostRows row; no-high = λ row l. zeros mostRows row }
+pub empty-zeros : (used : ℕ) → EmptyFrom (replicate mostRows 0) (replicate mostRows 0) used
+empty-zeros used = record { no-low = λ row l. zeros mostRows row; no-high = λ row l. zeros mostRows row }
 
-pub idle-first : (v w : ℕ) → EmptyFrom (set (replicate mostRows 0) 0 v) (set (replicate mostRows 0) 0 w) 1
-idle-first v w = record { no-low = set-rest v; no-high = set-rest w }
+pub empty-first : (v w : ℕ) → EmptyFrom (set (replicate mostRows 0) 0 v) (set (replicate mostRows 0) 0 w) 1
+empty-first v w = record { no-low = set-rest v; no-high = set-rest w }
 
 -- the words before the first layer was made
 pub places-from : {ws ws₀ ws₁ lows highs : List ℕ} {grid : Grid} {cur : ℕ} (origin : ℕ) → origin < 2 * grid .cells → ws ≡ putAt ws₀ origin firstCell
@@ -265,7 +265,7 @@ places-from {ws} {ws₀} origin h e p = record {
   high-length = p .high-length;
   low-fits = p .low-fits;
   high-fits = p .high-fits;
-  beyond = λ x k. p .beyond x k ∙ ap (λ ws. cellAt ws x) e ∙ get-other ws₀ origin x firstCell (λ q. omega arith);
+  past = λ x k. p .past x k ∙ ap (λ ws. cellAt ws x) e ∙ get-other ws₀ origin x firstCell (λ q. omega arith);
 }
 
 -- ---- the words past those of the cells are as they were
@@ -274,17 +274,17 @@ cell-words : (ws ws′ : List ℕ) (x : ℕ) → cellAt ws′ x ≡ cellAt ws x 
 unfolding cellAt
 cell-words ws ws′ x e = (ap (λ c. c .worth) e, ap (λ c. c .code) e)
 
-beyond-word : {ws ws′ lows highs : List ℕ} {grid : Grid} {cur : ℕ} → Places ws ws′ lows highs grid cur → (i : ℕ) → 4 * grid .cells ≤ i → getD ws′ i 0 ≡ getD ws i 0
-beyond-word {ws} {ws′} {lows} {highs} {grid} p i h =
+past-word-kept : {ws ws′ lows highs : List ℕ} {grid : Grid} {cur : ℕ} → Places ws ws′ lows highs grid cur → (i : ℕ) → 4 * grid .cells ≤ i → getD ws′ i 0 ≡ getD ws i 0
+past-word-kept {ws} {ws′} {lows} {highs} {grid} p i h =
     let two : 0 < 2 = omega arith in
-    let w = cell-words ws ws′ (i / 2) (p .beyond (i / 2) (omega (arith, div-add-mod' i 2, mod-lt i two))) in
+    let w = cell-words ws ws′ (i / 2) (p .past (i / 2) (omega (arith, div-add-mod' i 2, mod-lt i two))) in
     ⊎-elim
     (λ (a : i % 2 < 1). let e : i ≡ 2 * (i / 2) = omega (arith, div-add-mod' i 2) in ap (λ j. getD ws′ j 0) e ∙ w .0 ∙ ap (λ j. getD ws j 0) (sym e))
     (λ (a : 1 ≤ i % 2). let e : i ≡ 2 * (i / 2) + 1 = omega (arith, div-add-mod' i 2, mod-lt i two) in ap (λ j. getD ws′ j 0) e ∙ w .1 ∙ ap (λ j. getD ws j 0) (sym e))
     (split (i % 2) 1)
 
-pub beyond-words : {ws ws′ lows highs : List ℕ} {grid : Grid} {cur : ℕ} → Places ws ws′ lows highs grid cur → drop (4 * grid .cells) ws′ ≡ drop (4 * grid .cells) ws
-beyond-words {ws} {ws′} {grid = grid} p =
+pub past-words-kept : {ws ws′ lows highs : List ℕ} {grid : Grid} {cur : ℕ} → Places ws ws′ lows highs grid cur → drop (4 * grid .cells) ws′ ≡ drop (4 * grid .cells) ws
+past-words-kept {ws} {ws′} {grid = grid} p =
     ext-getD 0 (drop (4 * grid .cells) ws′) (drop (4 * grid .cells) ws)
     (length-drop (4 * grid .cells) ws′ ∙ ap (λ n. n - 4 * grid .cells) (p .same-length) ∙ sym (length-drop (4 * grid .cells) ws))
-    (λ i h. getD-drop (4 * grid .cells) ws′ i 0 ∙ beyond-word p (4 * grid .cells + i) (omega arith) ∙ sym (getD-drop (4 * grid .cells) ws i 0))
+    (λ i h. getD-drop (4 * grid .cells) ws′ i 0 ∙ past-word-kept p (4 * grid .cells + i) (omega arith) ∙ sym (getD-drop (4 * grid .cells) ws i 0))

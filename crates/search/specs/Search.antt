@@ -108,7 +108,7 @@ pub record Places (ws ws′ lows highs : List ℕ) (grid : Grid) (cur : ℕ) : T
   pub high-length : length highs ≡ mostRows
   pub low-fits : (row : ℕ) → row < grid .rows → getD lows row 0 ≤ grid .width
   pub high-fits : (row : ℕ) → row < grid .rows → getD highs row 0 ≤ grid .width
-  pub beyond : (x : ℕ) → 2 * grid .cells ≤ x → cellAt ws′ x ≡ cellAt ws x
+  pub past : (x : ℕ) → 2 * grid .cells ≤ x → cellAt ws′ x ≡ cellAt ws x
 
 -- the trials of the first k loads
 abbrev pub trialsOf : {grid : Grid} {origin n : ℕ} {moves : List LoadMoves} → Modelled grid origin n moves → ℕ → ℕ

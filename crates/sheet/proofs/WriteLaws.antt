@@ -14,10 +14,10 @@ use Rattle.model.specs.Lists.{upto}
 use Rattle.model.specs.Bounds.{mostSheet}
 use Rattle.model.specs.Frames.{unsigned}
 use Rattle.model.specs.Refusals.{done}
-use Rattle.model.specs.Answers.{bufferAfter}
 use Rattle.model.specs.Book.{Setting, Problem}
 use Rattle.model.specs.Choice.{Choice, IsChoice, worthOf, sumIn, noSetting}
 use Rattle.model.specs.Grid.{slotsOf}
+use Rattle.model.specs.Answers.{bufferAfter}
 use Rattle.model.specs.Sheet.{slotLines, sheetBytes, sheetLength, sheetOf}
 use Rattle.model.specs.Valid.{Labelled, ValidBook}
 use Rattle.model.specs.Values.{Held, Picked, settingOf, choiceOf, problemOf}

@@ -1,3 +1,3 @@
 -- The definitions that the contracts of the sheet cite.
 pub mod Lines
-pub mod FirstLine
+pub mod Found

@@ -10,19 +10,19 @@ use native.Mathlib.Omega.{arith}
 use lib.IntN.{natAbs}
 use lib.ListN.{length, getD, set, length-append, length-set, getD-replicate}
 use Rattle.model.specs.Lists.{Mem, Every, upto}
+use Rattle.model.specs.Bounds.{mostLoads}
 use Rattle.model.specs.Book.{Power, Setting, Settings, Problem}
 use Rattle.model.specs.Choice.{Choice, IsChoice, plus, powerIn, sumIn, noSetting}
 use Rattle.model.specs.Valid.{Labelled, SettingSmall, ValidBook}
 use Rattle.model.specs.Values.{raisedBy, settingOf, loadValue}
-use Rattle.model.specs.Bounds.{mostLoads}
-use Rattle.model.proofs.ListLaws.{every-mem, every-at}
+use Rattle.model.proofs.ListLaws.{every-mem, every-at, every-set}
 use Rattle.model.proofs.UptoLaws.{getD-upto, upto-is}
 use Rattle.model.proofs.ChoiceLaws.{snoc, plus-comm, sum-last, choice-every}
 use Rattle.model.proofs.PlanLaws.{chosen-length}
-use Rattle.model.proofs.HeldLaws.{setting-small, load-active, load-reactive, loads-small}
 use Rattle.model.proofs.QuickLaws.{sum-set}
-use Rattle.sums.specs.Sums.{sumsValue, shiftedIn, shifted, noPowers, added, exchanged, Small, SumsSmall, CanShift, CanAdd, CanExchange}
 use Rattle.model.proofs.RaisedLaws.{raised-one, raised-plus, abs-plus, raised-most}
+use Rattle.model.proofs.HeldLaws.{setting-small, load-active, load-reactive, loads-small}
+use Rattle.sums.specs.Sums.{sumsValue, shiftedIn, shifted, noPowers, added, exchanged, Small, SumsSmall, CanShift, CanAdd, CanExchange}
 
 -- ---- small settings
 
@@ -98,11 +98,6 @@ record PowersOf (entry : ℕ → Power → ℕ) (vs : Settings) (powers : List �
   pub at : (j s : ℕ) → j < 4 → s < 4 → getD powers (4 * j + s) 0 ≡ entry 1 (powerIn s (settingOf vs j))
 
 -- ---- the array shifted
-
-pub every-set : {A : Type 0} (P : A → Type 0) (xs : List A) (k : ℕ) (x : A) → Every P xs → P x → Every P (set xs k x)
-every-set P [] k x h p = tt
-every-set P (y ∷ ys) zero x h p = (p, h .1)
-every-set P (y ∷ ys) (suc k) x h p = (h .0, every-set P ys k x (h .1) p)
 
 none-at : (s : ℕ) → s < 4 → getD noPowers s 0 ≡ 0
 none-at s h = getD-replicate 16 s 0 0 (omega arith)

@@ -36,37 +36,37 @@ fn main() -> ExitCode {
         eprintln!("usage: speed [ROUNDS]");
         return ExitCode::from(2);
     };
-    let mut bench = Bench::new(rounds);
+    let mut timings = Timings::new(rounds);
     println!("best of {rounds} rounds or more; ours is the archive's planner, Rust the one written by hand\n");
     heading("book");
     for (name, book) in BOOKS {
-        bench.row(name, book);
+        timings.row(name, book);
     }
     println!();
-    grow(&mut bench);
-    if bench.different {
+    grow(&mut timings);
+    if timings.different {
         println!("\nDIFFERENT answers or sheets");
     }
-    ExitCode::from(u8::from(bench.different))
+    ExitCode::from(u8::from(timings.different))
 }
 
 /// How the time grows with the cells and with the trials.
-fn grow(bench: &mut Bench) {
+fn grow(timings: &mut Timings) {
     heading("e with other d");
     for fineness in [1, 2, 4, 8, 16, 29] {
-        bench.row(&format!("d = {fineness}"), &with_fineness(GROWN, fineness));
+        timings.row(&format!("d = {fineness}"), &with_fineness(GROWN, fineness));
     }
     let book = with_fineness(GROWN, 16);
     println!();
     heading("e, d = 16, some loads draw");
     for loads in [4, 8, 12, 16, 20, 24] {
-        bench.row(&format!("{loads} loads draw"), &with_idle_loads(&book, loads));
+        timings.row(&format!("{loads} loads draw"), &with_idle_loads(&book, loads));
     }
     println!();
     heading("e, d = 16, spent (12)");
-    let trials = bench.measure(&book).answer.trials;
+    let trials = timings.measure(&book).answer.trials;
     for part in [64, 16, 4, 2] {
-        bench.row(&format!("budget = trials / {part}"), &with_budget(&book, trials / part));
+        timings.row(&format!("budget = trials / {part}"), &with_budget(&book, trials / part));
     }
 }
 
@@ -86,7 +86,7 @@ struct Timing {
     different: bool,
 }
 
-struct Bench {
+struct Timings {
     rounds: u32,
     /// The work area of both planners, large enough for every book and touched before any timing.
     work: Vec<u64>,
@@ -96,11 +96,11 @@ struct Bench {
 
 type Planner = fn(&[u8], &mut [u64], &mut [u8]) -> Answer;
 
-impl Bench {
-    fn new(rounds: u32) -> Bench {
+impl Timings {
+    fn new(rounds: u32) -> Timings {
         let mut work = vec![1; 4 * MOST_CELLS as usize];
         work.fill(0);
-        Bench {
+        Timings {
             rounds,
             work,
             different: false,

@@ -7,7 +7,7 @@ use mathlib.Core.Path.{_≡_, refl}
 use mathlib.Core.Bool.{true}
 use Rattle.pass.specs.Pass.{held, countRows, EmptyFrom, LayerMade}
 use Rattle.pass.proofs.SourceLaws.{row-end, next-row}
-use Rattle.pass.proofs.LayerLaws.{below, idle-set, layer-rest, layer-rest-count, layer-none, layer-rows, layer-room, layer-more, layer-count, layer-all, layer-total}
+use Rattle.pass.proofs.LayerLaws.{below, empty-set-row, layer-rest, layer-rest-count, layer-none, layer-rows, layer-room, layer-more, layer-count, layer-all, layer-total}
 use Rattle.pass.proofs.load_pass.Statement.{statement}
 use Rattle.pass.proofs.load_pass.Tie as tie
 
@@ -67,7 +67,7 @@ loop-again c =
       omega (arith, q .count-fits, next-row (c .before .before .before .before .before .before .loop .row) (c .before .before .before .before .before .before .before .before .args .grid .width)),
       (λ t. layer-count _ _ _ _ _ (p .0) (p .1 .0) l (v .3) q t (v .2 t)),
       layer-more _ _ _ _ _ (p .0) (p .1 .0) l (v .3) q,
-      idle-set _ _ _ t (v .4),
+      empty-set-row _ _ _ t (v .4),
     )
 
 same-length : tie.Need-same-length Inv-loop μ-loop

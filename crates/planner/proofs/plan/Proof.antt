@@ -2,12 +2,13 @@
 use mathlib.Core.Path.{refl, sym, ap, subst, _∙_}
 use lib.ListN.{length}
 use Rattle.model.specs.declared.Answer.{Answer}
-use Rattle.model.specs.Answers.{Writes}
 use Rattle.model.specs.Trials.{WordsKept}
+use Rattle.model.specs.Answers.{Writes}
 use Rattle.model.specs.Calls.{plannerResult, fitting, freeFor}
 use Rattle.model.specs.Demand.{Demand3}
+use Rattle.model.proofs.AnswerLaws.{writes-same}
 use Rattle.model.proofs.DemandLaws.{demand3}
-use Rattle.model.proofs.ReadingLaws.{writes-same, reading-held, reading-done, reading-refused}
+use Rattle.model.proofs.ReadingLaws.{reading-held, reading-done, reading-refused}
 use Rattle.planner.specs.Planner.{fittedPlan}
 use Rattle.planner.proofs.CallLaws.{planner-is, free-is}
 use borrow.Author.Needs.{needs}

@@ -5,10 +5,10 @@ use Rattle.model.specs.Refusals.{andThen}
 use Rattle.model.specs.Trials.{WordsKept}
 use Rattle.model.specs.Calls.{planSheet, freeFor}
 use Rattle.model.specs.Values.{problemOf}
-use Rattle.model.proofs.ReadingLaws.{writes-same}
-use Rattle.planner.proofs.CallLaws.{fit-many, fit-small, fit-short, fit-done, size-refused}
+use Rattle.model.proofs.AnswerLaws.{writes-same}
 use native.Mathlib.Omega.{arith}
 use borrow.Author.Needs.{needs}
+use Rattle.planner.proofs.CallLaws.{fit-many, fit-small, fit-short, fit-done, size-refused}
 use Rattle.planner.proofs.plan_book.Statement.{statement}
 use Rattle.planner.proofs.plan_book.Tie as tie
 

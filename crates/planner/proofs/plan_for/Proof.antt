@@ -1,6 +1,6 @@
 -- `planner::plan_for` meets its contract: refusal 12, or the sheet of what the search found. Assumes nothing.
+use Rattle.model.proofs.AnswerLaws.{writes-same, refused-writes}
 use Rattle.model.proofs.HeldLaws.{held-few}
-use Rattle.model.proofs.ReadingLaws.{writes-same, refused-writes}
 use borrow.Author.Tests.{not-true, not-false}
 use borrow.Author.Needs.{needs}
 use Rattle.planner.proofs.CallLaws.{plan-over}

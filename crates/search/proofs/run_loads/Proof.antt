@@ -8,10 +8,10 @@ use mathlib.Core.Path.{_≡_}
 use lib.ListN.{length, length-replicate}
 use Rattle.model.specs.Bounds.{mostRows}
 use Rattle.pass.specs.Pass.{EmptyFrom}
-use Rattle.pass.proofs.LayerLaws.{idle-more}
+use Rattle.pass.proofs.LayerLaws.{empty-more}
 use Rattle.search.specs.Search.{Modelled, Run}
 use Rattle.search.proofs.ModelLaws.{rows-one, grid-fits, load-fits}
-use Rattle.search.proofs.RunLaws.{idle-zeros, run-cur, run-rows, run-stretches, run-room, run-tries, run-trials, run-more, stopped, ended}
+use Rattle.search.proofs.RunLaws.{empty-zeros, run-cur, run-rows, run-stretches, run-room, run-tries, run-trials, run-more, stopped, ended}
 use Rattle.search.proofs.run_loads.Statement.{statement}
 use Rattle.search.proofs.run_loads.Tie as tie
 
@@ -28,7 +28,7 @@ abbrev μ-loop : tie.MeasureT-loop
 loop-holds : tie.Need-loop-holds Inv-loop μ-loop
 loop-holds c =
     let p = c .before .pre in
-    (omega arith, omega arith, length-replicate {A = ℕ} mostRows 0, length-replicate {A = ℕ} mostRows 0, rows-one (p .1 .0), p .1 .1 .0, idle-zeros 1, p .1 .1 .1)
+    (omega arith, omega arith, length-replicate {A = ℕ} mostRows 0, length-replicate {A = ℕ} mostRows 0, rows-one (p .1 .0), p .1 .1 .0, empty-zeros 1, p .1 .1 .1)
 
 mul-load : tie.Need-mul-load Inv-loop μ-loop
 mul-load c = omega (arith, c .before .before .before .pre .1 .0 .loads-fit)
@@ -75,7 +75,7 @@ load-pass-requires c κs =
     let f = c .before .before .before .before .before .reach-of .ensures in
     let m = p .1 .0 in
     let run = v .7 m in
-    (grid-fits m, (run-rows m l (p .0) run, (run-stretches m l (p .0) run, (load-fits m _ l, (run-room m l (p .0) run, ((v .2, v .3), (v .5, (idle-more (f .more) (v .6), f))))))))
+    (grid-fits m, (run-rows m l (p .0) run, (run-stretches m l (p .0) run, (load-fits m _ l, (run-room m l (p .0) run, ((v .2, v .3), (v .5, (empty-more (f .more) (v .6), f))))))))
 
 sub-cur : tie.Need-sub-cur Inv-loop μ-loop
 sub-cur c =

@@ -6,7 +6,7 @@ use mathlib.Core.Path.{ap, _∙_}
 use lib.ListN.{length}
 use Rattle.table.proofs.WordLaws.{length-put}
 use Rattle.search.proofs.ModelLaws.{width-in}
-use Rattle.search.proofs.RunLaws.{idle-first, origin-in, origin-room, run-first, set-first, set-long, places-from, beyond-words}
+use Rattle.search.proofs.RunLaws.{empty-first, origin-in, origin-room, run-first, set-first, set-long, places-from, past-words-kept}
 use Rattle.search.proofs.search.Statement.{statement}
 use Rattle.search.proofs.search.Tie as tie
 
@@ -31,9 +31,9 @@ run-loads-requires c κs =
       (
         p .1,
         (
-          idle-first o (o + 1),
+          empty-first o (o + 1),
           λ m.
-              run-first m _ _ _ _ e (origin-room m (c .before .before .before .before .before .before .args .work .now) (p .0)) (set-first o) (set-first (o + 1)) (idle-first o (o + 1)) (set-long o) (set-long (o + 1)),
+              run-first m _ _ _ _ e (origin-room m (c .before .before .before .before .before .before .args .work .now) (p .0)) (set-first o) (set-first (o + 1)) (empty-first o (o + 1)) (set-long o) (set-long (o + 1)),
         ),
       ),
     )
@@ -47,7 +47,7 @@ returns c =
     let r = c .before .before .run-loads .ensures in
     let m = p .1 in
     let q = places-from _ (omega (arith, origin-in m, width-in m)) (c .before .before .before .before .before .before .start .ensures) (r .0) in
-    (beyond-words q, (q, r .1))
+    (past-words-kept q, (q, r .1))
 
 pub search-spec : {M : Type 1} → statement M
 search-spec =

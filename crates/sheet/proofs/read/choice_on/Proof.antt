@@ -2,8 +2,8 @@
 use mathlib.Core.Path.{sym, subst, _∙_}
 use borrow.Author.Tests.{not-true, not-false}
 use Rattle.model.specs.Values.{problemOf}
-use Rattle.sheet.specs.FirstLine.{PicksOn}
-use Rattle.sheet.proofs.ChoiceLaws.{none-foreign, length-foreign, foreign-on, compared-on}
+use Rattle.sheet.specs.Found.{PicksOn}
+use Rattle.sheet.proofs.SheetChoiceLaws.{none-foreign, length-foreign, foreign-on, compared-on}
 use native.Mathlib.Omega.{arith}
 use borrow.Author.Needs.{needs}
 use Rattle.sheet.proofs.read.choice_on.Statement.{statement}

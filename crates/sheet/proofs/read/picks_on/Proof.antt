@@ -7,7 +7,7 @@ use borrow.Author.Needs.{needs}
 use native.Mathlib.Omega.{arith}
 use Rattle.model.proofs.HeldLaws.{held-count, held-few}
 use Rattle.sheet.proofs.read.picks_on.Statement.{statement}
-use Rattle.sheet.proofs.ChoiceLaws.{ReadUpto, read-start, read-more, read-lost, read-found}
+use Rattle.sheet.proofs.SheetChoiceLaws.{ReadUpto, read-start, read-more, read-lost, read-found}
 use Rattle.sheet.proofs.read.picks_on.Tie as tie
 
 abbrev Inv-loop : tie.InvT-loop

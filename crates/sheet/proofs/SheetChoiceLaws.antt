@@ -20,11 +20,11 @@ use Rattle.model.specs.declared.Refusal.the-variants.{ForeignSheet}
 use Rattle.model.specs.Lists.{Every, sameLists}
 use Rattle.model.specs.Bounds.{mostLoads}
 use Rattle.model.specs.Frames.{field}
-use Rattle.model.specs.Refusals.{refused, done, _⇒_, first, checked}
+use Rattle.model.specs.Refusals.{refused, done, first, checked}
 use Rattle.model.specs.Book.{Setting, Settings, Problem}
 use Rattle.model.specs.Choice.{Choice, settingNumbered}
 use Rattle.model.specs.Sheet.{sheetBytes, sheetLength}
-use Rattle.model.specs.SheetReader.{consBoth, choiceFrom, trialsOn, ifBelongs, sheetChoice}
+use Rattle.model.specs.SheetReader.{foreignRules, consBoth, choiceFrom, trialsOn, ifBelongs, sheetChoice}
 use Rattle.model.specs.Valid.{Numbered, Labelled}
 use Rattle.model.specs.Values.{Held, Picked, loadValue, choiceOf, problemOf}
 use Rattle.model.proofs.ListLaws.{same-eq, same-refl}
@@ -35,7 +35,7 @@ use Rattle.model.proofs.SheetLaws.{sheet-length, choice-is, choice-back}
 use Rattle.model.proofs.HeldLaws.{held-valid, held-count, held-few, held-load}
 use Rattle.sums.proofs.PickLaws.{picked-choice}
 use Rattle.sheet.specs.declared.read.SheetPicks.{SheetPicks}
-use Rattle.sheet.specs.FirstLine.{PicksOn, Belongs, ChoiceOn}
+use Rattle.sheet.specs.Found.{PicksOn, Belongs, ChoiceOn}
 use Rattle.sheet.proofs.WriteLaws.{number-at, choice-length}
 
 -- ---- the numbers on a sheet
@@ -141,7 +141,7 @@ module _ (sheet : List ℕ) (b : Problem) where
   none-foreign e = ap (ifBelongs sheet b) e
 
   module _ (c : Choice) (e : choiceFrom sheet 0 (b .loads) ≡ some c) where
-    choice-at : (f : Finding) → first ((not (sameLists eqb sheet (sheetBytes b c (trialsOn sheet))) ⇒ ForeignSheet) ∷ []) ≡ f
+    choice-at : (f : Finding) → first (foreignRules b sheet c (trialsOn sheet)) ≡ f
         → sheetChoice sheet b ≡ checked 0 f (done c)
     unfolding sheetChoice
     choice-at f q = ap (ifBelongs sheet b) e ∙ ap (λ x. checked 0 x (done c)) q
