@@ -1,4 +1,4 @@
--- What the sheet reader finds on a sheet: the numbers on its first line, and whether its bytes are those that are due.
+-- What is found on a sheet: the numbers on its first line, whether its bytes are those that are due, and its choice.
 use Prim.Native.Nat.{ℕ}
 use mathlib.Core.Path.{_≡_}
 use mathlib.Core.Bool.{Bool, true, false}
