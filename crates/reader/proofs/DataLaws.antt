@@ -12,8 +12,8 @@ use Rattle.model.specs.Book.{Problem, readBook}
 use Rattle.model.specs.SheetReader.{trialsOn, sheetData, readerResult, sheetAnswerOf}
 use Rattle.model.specs.Values.{readingOf, choiceOf}
 use Rattle.model.proofs.SheetLaws.{dataOf}
-use Rattle.sheet.specs.declared.read.SheetPicks.{SheetPicks}
-use Rattle.sheet.specs.Found.{ChoiceOn}
+use Rattle.chosen.specs.declared.SheetPicks.{SheetPicks}
+use Rattle.chosen.specs.Found.{ChoiceOn}
 
 -- ---- the sheet reader's result for one book
 

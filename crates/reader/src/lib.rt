@@ -12,7 +12,7 @@ fn read_for(book: Book, sheet: &[u8]) -> SheetAnswer
     requires { ⌜ Held book ⌝ }
     ensures { λ r. ⌜ r ≡ sheetAnswerOf (sheetData (now (sheet .entry)) (problemOf book)) ⌝ }
 {
-    let on = sheet::choice_on(book, sheet);
+    let on = chosen::choice_on(book, sheet);
     if !on.belongs {
         let answer = Answer::refusal(Refusal::ForeignSheet, 0);
         return SheetAnswer { answer, code: 0 };

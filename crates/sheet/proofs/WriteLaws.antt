@@ -1,17 +1,14 @@
 -- The sheet that the code writes is the one of the definitions.
 -- Assumes nothing.
-use Prim.Native.Nat.{ℕ, _+_, _*_, _^_, _≤_, _<_}
+use Prim.Native.Nat.{ℕ, _*_, _^_, _≤_, _<_}
 use mathlib.Core.Path.{_≡_, sym, ap, ap₂, _∙_}
-use mathlib.Core.List.{List, [], _++_, map, append-nil}
-use mathlib.Core.Option.{none}
+use mathlib.Core.List.{List, [], _++_, map}
 use native.Mathlib.Nat.{zero-add}
 use native.Mathlib.Omega.{arith}
 use lib.IntN.{subℕ}
-use lib.ListN.{length, getD, take, drop, length-append, length-take, drop-of-length-le}
-use lib.Seq.{take-at}
+use lib.ListN.{length, getD}
 use Rattle.model.specs.declared.Book.{Book}
 use Rattle.model.specs.Lists.{upto}
-use Rattle.model.specs.Bounds.{mostSheet}
 use Rattle.model.specs.Frames.{unsigned}
 use Rattle.model.specs.Refusals.{done}
 use Rattle.model.specs.Book.{Setting, Problem}
@@ -34,8 +31,8 @@ use Rattle.sums.specs.declared.Sums.{Sums}
 use Rattle.sums.specs.Sums.{sumsValue}
 use Rattle.sums.proofs.SumsLaws.{reactive-sum, sums-active, sums-reactive, choice-small, choice-sums}
 use Rattle.sums.proofs.PickLaws.{picked-choice}
-use Rattle.sheet.specs.Lines.{firstBytes, slotsBytes}
-use Rattle.sheet.proofs.LineLaws.{first-is, slots-are}
+use Rattle.lines.specs.Lines.{firstBytes, slotsBytes}
+use Rattle.lines.proofs.LineLaws.{first-is, slots-are}
 
 -- ---- the sheet of a choice whose numbers are in an array
 
@@ -115,29 +112,3 @@ module _ (book : Book) (h : Held book) (picks : List ℕ) (picked : Picked (prob
 
   pub bytes-length : (trials : ℕ) → length (sheetBytes b c trials) ≡ sheetLength b
   bytes-length trials = sheet-length b c trials (choice-length b picks (held-valid book h) picked)
-
--- no sheet has more than 159 bytes
-pub sheet-room : (book : Book) (h : Held book) (n : ℕ) → n ≡ sheetLength (problemOf book) → n ≤ mostSheet
-sheet-room book h n e = omega (arith, held-valid book h .slots-few, held-valid book h .loads-few)
-
--- a buffer of which as many bytes were lent as the sheet has
-module _ (book : Book) (h : Held book) (picks : List ℕ) (picked : Picked (problemOf book) picks) (trials n : ℕ) (l last : List ℕ)
-    (room : mostSheet ≤ length l) (all : n ≡ sheetLength (problemOf book))
-    (e : last ≡ bufferAfter (done (sheetOf (problemOf book) (choiceOf (problemOf book) picks) trials)) (take n l)) where
-  abbrev due : List ℕ
-  due = sheetBytes (problemOf book) (choiceOf (problemOf book) picks) trials
-
-  due-length : length due ≡ n
-  due-length = bytes-length book h picks picked trials ∙ sym all
-
-  last-is : last ≡ due
-  last-is =
-      let none : drop (length due) (take n l) ≡ []
-      = drop-of-length-le (take n l) {i = length due} (omega (arith, length-take n l, due-length)) in
-      e ∙ ap (λ r. due ++ r) none ∙ append-nil due
-
-  pub due-room : n ≤ length (last ++ drop n l)
-  due-room = omega (arith, length-append last (drop n l), ap length last-is, due-length)
-
-  pub due-is : take n (last ++ drop n l) ≡ due
-  due-is = take-at last (drop n l) n (ap length last-is ∙ due-length) ∙ last-is

@@ -1,4 +1,4 @@
-// The sheet: it is written into a lent buffer (`write` puts its lines there), and read against a book to a choice (`read`).
+// The sheet of a choice, written into a lent buffer.
 use model::Answer;
 use model::Book;
 ghost use mathlib.Core.Path.{_≡_};
@@ -8,12 +8,6 @@ ghost use Rattle.model.specs.Refusals.{done};
 ghost use Rattle.model.specs.Answers.{Writes};
 ghost use Rattle.model.specs.Sheet.{sheetOf, sheetLength};
 ghost use Rattle.model.specs.Values.{Held, Picked, choiceOf, problemOf};
-
-mod read;
-mod write;
-
-pub use read::SheetPicks;
-pub use read::choice_on;
 
 // How many bytes a sheet for this book has.
 pub fn sheet_length(book: Book) -> usize
@@ -37,8 +31,8 @@ pub fn write_sheet(book: Book, picks: [usize; Book::LOADS], trials: u64, sheet: 
     let sums = sums::sums_of(book, picks);
     let actives = sums.actives;
     let reactives = sums.reactives;
-    let words = write::words_of(reactives, 32768 * count as u64);
-    write::write_lines(
+    let words = lines::words_of(reactives, 32768 * count as u64);
+    lines::write_lines(
         sheet,
         slots,
         count,

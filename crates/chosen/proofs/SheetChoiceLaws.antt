@@ -1,0 +1,191 @@
+-- What is found on a sheet: its numbers, and its choice.
+-- Assumes nothing.
+use Prim.Native.Nat.{ℕ, zero, suc, _+_, _*_, _≤_, _<_}
+use mathlib.Core.Path.{_≡_, refl, sym, ap, subst, _∙_}
+use mathlib.Core.Bool.{Bool, true, false, cond, not, false≢true}
+use mathlib.Core.Logic.{_⊎_, inl, inr}
+use mathlib.Core.List.{List, [], _∷_}
+use mathlib.Core.Option.{Option, none, some}
+use native.Mathlib.Nat.{zero-add, add-zero, le-of-suc-le-suc}
+use native.Mathlib.Omega.{arith}
+use lib.Dec.{eqb}
+use lib.ListN.{length, getD, set, length-set}
+use lib.Seq.{getD-set-same, getD-set-other}
+use borrow.Author.Tests.{ne-eqb}
+use Rattle.model.specs.declared.Book.{Book}
+use Rattle.model.specs.declared.Finding.{Finding}
+use Rattle.model.specs.declared.Finding.the-variants.{Passed, Refused}
+use Rattle.model.specs.declared.Load.{Load}
+use Rattle.model.specs.declared.Refusal.the-variants.{ForeignSheet}
+use Rattle.model.specs.Lists.{Every, sameLists}
+use Rattle.model.specs.Bounds.{mostLoads}
+use Rattle.model.specs.Frames.{field}
+use Rattle.model.specs.Refusals.{refused, done, first, checked}
+use Rattle.model.specs.Book.{Setting, Settings, Problem}
+use Rattle.model.specs.Choice.{Choice, settingNumbered}
+use Rattle.model.specs.Sheet.{sheetBytes, sheetLength}
+use Rattle.model.specs.SheetReader.{foreignRules, consBoth, choiceFrom, trialsOn, ifBelongs, sheetChoice}
+use Rattle.model.specs.Valid.{Numbered, Labelled}
+use Rattle.model.specs.Values.{Held, Picked, loadValue, choiceOf, problemOf}
+use Rattle.model.proofs.ListLaws.{same-eq, same-refl}
+use Rattle.model.proofs.IntegerLaws.{split}
+use Rattle.model.proofs.RefusalLaws.{first-here, first-last}
+use Rattle.model.proofs.PlanLaws.{chosen-length}
+use Rattle.model.proofs.SheetLaws.{sheet-length, choice-is, choice-back}
+use Rattle.model.proofs.HeldLaws.{held-valid, held-count, held-few, held-load}
+use Rattle.sums.proofs.PickLaws.{picked-choice}
+use Rattle.chosen.specs.declared.SheetPicks.{SheetPicks}
+use Rattle.chosen.specs.Found.{PicksOn, Belongs, ChoiceOn}
+use Rattle.sheet.proofs.WriteLaws.{number-at, choice-length}
+
+-- ---- the numbers on a sheet
+
+-- no setting has a number past the last
+past-last : (i : ℕ) (vs : Settings) (c : ℕ) → Numbered i vs → i + length vs ≤ c → settingNumbered c vs ≡ none
+past-last i [] c h l = refl
+past-last i (v ∷ vs) c h l =
+    ap (λ t. cond t (some v) (settingNumbered c vs)) (ne-eqb (v .number) c (λ e. omega (arith, e, h .0)))
+    ∙ past-last (suc i) vs c (h .1) (omega arith)
+
+both-none : (x : Option Setting) → consBoth x none ≡ none
+both-none none = refl
+both-none (some v) = refl
+
+choice-none : (sheet : List ℕ) (i : ℕ) (loads : List Settings) → Every Labelled loads → (k : ℕ) → k < length loads
+    → length (getD loads k []) ≤ field sheet (18 + 2 * (i + k)) 2 → choiceFrom sheet i loads ≡ none
+choice-none sheet i [] h k l o = absurd (omega arith)
+choice-none sheet i (vs ∷ loads) h zero l o =
+    ap (λ x. consBoth x (choiceFrom sheet (suc i) loads))
+    (past-last 0 vs (field sheet (18 + 2 * i) 2) (h .0 .numbered) (omega (arith, ap (λ j. field sheet (18 + 2 * j) 2) (add-zero i))))
+choice-none sheet i (vs ∷ loads) h (suc k) l o =
+    let across : 18 + 2 * (i + suc k) ≡ 18 + 2 * (suc i + k) = omega arith in
+    ap (consBoth (settingNumbered (field sheet (18 + 2 * i) 2) vs))
+    (choice-none sheet (suc i) loads (h .1) k (le-of-suc-le-suc l) (omega (arith, ap (λ j. field sheet j 2) across)))
+    ∙ both-none (settingNumbered (field sheet (18 + 2 * i) 2) vs)
+
+-- the first k numbers of the sheet stand in the array, and each is one of its load's
+pub record ReadUpto (sheet : List ℕ) (b : Problem) (k : ℕ) (picks : List ℕ) : Type 0 where
+  pub room : length picks ≡ mostLoads
+  pub same : (j : ℕ) → j < k → getD picks j 0 ≡ field sheet (18 + 2 * j) 2
+  pub inside : (j : ℕ) → j < k → getD picks j 0 < length (getD (b .loads) j [])
+
+pub read-start : (sheet : List ℕ) (b : Problem) (picks : List ℕ) → length picks ≡ mostLoads → ReadUpto sheet b 0 picks
+read-start sheet b picks e = record { room = e; same = λ j l. absurd (omega arith); inside = λ j l. absurd (omega arith) }
+
+module _ (book : Book) (h : Held book) (sheet picks : List ℕ) where
+  abbrev book-of : Problem
+  book-of = problemOf book
+
+  settings-at : (k : ℕ) (d : Load) → k < book .count → getD (book .loads) k d .settings ≡ length (getD (book-of .loads) k [])
+  unfolding loadValue
+  settings-at k d l = ap (λ (x : Load). x .settings) (held-load book h k d (omega (arith, held-few book h)))
+
+  -- one load more
+  pub read-more : (k : ℕ) (d : Load) (c : ℕ) → k < book .count → ReadUpto sheet book-of k picks → c ≡ field sheet (18 + 2 * k) 2
+      → c < getD (book .loads) k d .settings → ReadUpto sheet book-of (k + 1) (set picks k c)
+  read-more k d c l r e m =
+      record {
+        room = length-set picks k c ∙ r .room;
+        same = λ j g. cases (λ x. x ≡ field sheet (18 + 2 * j) 2) j g (λ i. r .same j i) (λ q. e ∙ ap (λ i. field sheet (18 + 2 * i) 2) (sym q));
+        inside = λ j g. cases (λ x. x < length (getD (book-of .loads) j [])) j g (λ i. r .inside j i)
+            (λ q. omega (arith, settings-at k d l, ap (λ i. length (getD (book-of .loads) i [])) q));
+      }
+    where
+      here : k < length picks
+      here = omega (arith, r .room, held-few book h)
+
+      cases : (P : ℕ → Type 0) (j : ℕ) → j < k + 1 → (j < k → P (getD picks j 0)) → (j ≡ k → P c) → P (getD (set picks k c) j 0)
+      cases P j g before last = go (split j k)
+        where
+          go : (j < k) ⊎ (k ≤ j) → P (getD (set picks k c) j 0)
+          go (inl i) = subst P (sym (getD-set-other picks k j c 0 (λ q. omega arith))) (before i)
+          go (inr i) =
+              let q : j ≡ k = omega arith in
+              subst P (sym (ap (λ i. getD (set picks k c) i 0) q ∙ getD-set-same picks k c 0 here)) (last q)
+
+  -- a number past its load's last
+  pub read-lost : (k : ℕ) (d : Load) (c : ℕ) → k < book .count → c ≡ field sheet (18 + 2 * k) 2 → getD (book .loads) k d .settings ≤ c
+      → PicksOn sheet book-of false picks
+  read-lost k d c l e m =
+      record {
+        picked = λ q. absurd (false≢true q);
+        found = λ q. absurd (false≢true q);
+        lost = λ q.
+            choice-none sheet 0 (book-of .loads) (held-valid book h .loads .labels) k (omega (arith, held-count book h))
+            (omega (arith, settings-at k d l, ap (λ i. field sheet (18 + 2 * i) 2) (zero-add k)));
+      }
+
+  -- each is one of its load's
+  pub read-found : (k : ℕ) → k ≡ book .count → ReadUpto sheet book-of k picks → PicksOn sheet book-of true picks
+  read-found k e r =
+      record {
+        picked = λ q. picked;
+        found = λ q.
+            choice-back sheet 0 (book-of .loads) (choiceOf book-of picks) (picked-choice book-of picks (held-valid book h) picked) (held-valid book h .loads .labels)
+            (λ j l.
+            let i : j < length (book-of .loads) = omega (arith, choice-length book-of picks (held-valid book h) picked) in
+            ap (λ m. field sheet (18 + 2 * m) 2) (zero-add j)
+            ∙ sym (r .same j (omega (arith, held-count book h)))
+            ∙ sym (number-at book-of picks (held-valid book h) picked j i));
+        lost = λ q. absurd (false≢true (sym q));
+      }
+    where
+      picked : Picked book-of picks
+      picked j l = r .inside j (omega (arith, held-count book h))
+
+-- ---- the choice on a sheet
+
+module _ (sheet : List ℕ) (b : Problem) where
+  pub none-foreign : choiceFrom sheet 0 (b .loads) ≡ none → sheetChoice sheet b ≡ refused ForeignSheet 0
+  unfolding sheetChoice
+  none-foreign e = ap (ifBelongs sheet b) e
+
+  module _ (c : Choice) (e : choiceFrom sheet 0 (b .loads) ≡ some c) where
+    choice-at : (f : Finding) → first (foreignRules b sheet c (trialsOn sheet)) ≡ f
+        → sheetChoice sheet b ≡ checked 0 f (done c)
+    unfolding sheetChoice
+    choice-at f q = ap (ifBelongs sheet b) e ∙ ap (λ x. checked 0 x (done c)) q
+
+    -- other bytes than the choice and the trials on the sheet give
+    pub other-foreign : (sheet ≡ sheetBytes b c (trialsOn sheet) → ⊥) → sheetChoice sheet b ≡ refused ForeignSheet 0
+    other-foreign h = choice-at (Refused ForeignSheet) (first-here ForeignSheet [] _ (ap not (other (sameLists eqb sheet (sheetBytes b c (trialsOn sheet))) refl)))
+      where
+        other : (t : Bool) → sameLists eqb sheet (sheetBytes b c (trialsOn sheet)) ≡ t → sameLists eqb sheet (sheetBytes b c (trialsOn sheet)) ≡ false
+        other true q = absurd (h (same-eq sheet (sheetBytes b c (trialsOn sheet)) q))
+        other false q = q
+
+    -- the same bytes
+    pub same-belongs : sheet ≡ sheetBytes b c (trialsOn sheet) → sheetChoice sheet b ≡ done c
+    same-belongs h = choice-at Passed (first-last ForeignSheet _ (ap not (ap (sameLists eqb sheet) (sym h) ∙ same-refl sheet)))
+
+  -- a sheet of another length
+  pub length-foreign : (length sheet ≡ sheetLength b → ⊥) → sheetChoice sheet b ≡ refused ForeignSheet 0
+  length-foreign h = go (choiceFrom sheet 0 (b .loads)) refl
+    where
+      go : (m : Option Choice) → choiceFrom sheet 0 (b .loads) ≡ m → sheetChoice sheet b ≡ refused ForeignSheet 0
+      go none e = none-foreign e
+      go (some c) e =
+          other-foreign c e (λ q. h (ap length q ∙ sheet-length b c (trialsOn sheet) (chosen-length (b .loads) c (choice-is sheet 0 (b .loads) c e))))
+
+  -- what the reader finds, where the sheet does not belong to the book
+  pub foreign-on : (v : SheetPicks) → v .belongs ≡ false → sheetChoice sheet b ≡ refused ForeignSheet 0 → ChoiceOn sheet b v
+  foreign-on v f e =
+      record {
+        picked = λ q. absurd (false≢true (sym f ∙ q));
+        found = λ q. absurd (false≢true (sym f ∙ q));
+        stated = λ q. absurd (false≢true (sym f ∙ q));
+        foreign = λ q. e;
+      }
+
+  -- and where its bytes were compared with those that the numbers and the trials on it give
+  pub compared-on : (picks : List ℕ) (trials : ℕ) (is : Bool) → PicksOn sheet b true picks → trials ≡ trialsOn sheet
+      → Belongs sheet (sheetBytes b (choiceOf b picks) trials) is → ChoiceOn sheet b (record { belongs = is; picks = picks; trials = trials })
+  compared-on picks trials is on t h =
+      record {
+        picked = λ q. on .picked refl;
+        found = λ q. same-belongs (choiceOf b picks) (on .found refl) (h .same q ∙ ap (sheetBytes b (choiceOf b picks)) t);
+        stated = λ q. t;
+        foreign = λ q.
+            other-foreign (choiceOf b picks) (on .found refl)
+            (λ e. false≢true (sym q ∙ h .known (e ∙ ap (sheetBytes b (choiceOf b picks)) (sym t))));
+      }

@@ -1,0 +1,2 @@
+-- The definitions that the contracts of the choice on a sheet cite.
+pub mod Found

@@ -1,0 +1,224 @@
+-- The lines of a sheet: their lengths, one more number or slot line, and that they are the lines of the definitions.
+-- Assumes nothing.
+use Prim.Native.Nat.{ℕ, zero, suc, _+_, _*_, _-_, _^_, _≤_, _<_}
+use mathlib.Core.Path.{_≡_, refl, sym, ap, ap₂, _∙_}
+use mathlib.Core.Logic.{_⊎_, inl, inr}
+use mathlib.Core.List.{List, [], _∷_, _++_, map, map-append, append-assoc, append-nil}
+use native.Mathlib.Nat.{zero-add, add-zero}
+use native.Mathlib.Numerals.{add-one}
+use native.Mathlib.Omega.{arith}
+use lib.IntN.{subℕ}
+use lib.ListN.{length, getD, take, drop, set, length-append, length-drop}
+use lib.Seq.{take-length, drop-length}
+use Rattle.model.specs.Lists.{upto, uptoFrom, concat}
+use Rattle.model.specs.Frames.{digits, unsigned}
+use Rattle.model.specs.Book.{Setting}
+use Rattle.model.specs.Choice.{Choice, worthOf, sumIn, noSetting}
+use Rattle.model.specs.Grid.{slotsFrom}
+use Rattle.model.specs.Sheet.{lf, numbersOf, firstLine, slotLine, slotLines}
+use Rattle.model.proofs.ListLaws.{length-concat}
+use Rattle.model.proofs.UptoLaws.{upto-last, suc-across}
+use Rattle.model.proofs.FrameLaws.{length-digits}
+use Rattle.model.proofs.IntegerLaws.{split, sub-pos, sub-neg}
+use Rattle.hex.specs.Written.{written}
+use Rattle.hex.proofs.WrittenLaws.{length-written, written-part, write-byte, write-on}
+use Rattle.lines.specs.Lines.{numbersIn, firstBytes, slotBytes, slotsBytes}
+
+-- ---- pieces over the numbers below a bound
+
+length-ups : (n : ℕ) → length (upto n) ≡ n
+length-ups n = go 0 n
+  where
+    go : (i n : ℕ) → length (uptoFrom i n) ≡ n
+    go i zero = refl
+    go i (suc n) = ap suc (go (suc i) n)
+
+concat-last : (xss : List (List ℕ)) (ys : List ℕ) → concat (xss ++ (ys ∷ [])) ≡ concat xss ++ ys
+concat-last [] ys = append-nil ys
+concat-last (xs ∷ xss) ys = ap (λ r. xs ++ r) (concat-last xss ys) ∙ sym (append-assoc xs (concat xss) ys)
+
+module _ (f : ℕ → List ℕ) where
+  pieces-last : (n : ℕ) → concat (map f (upto (n + 1))) ≡ concat (map f (upto n)) ++ f n
+  pieces-last n =
+      ap (λ m. concat (map f (upto m))) (add-one n)
+      ∙ ap (λ r. concat (map f r)) (upto-last n)
+      ∙ ap concat (map-append f (upto n) (n ∷ []))
+      ∙ concat-last (map f (upto n)) (f n)
+
+  length-pieces : (w n : ℕ) → ((k : ℕ) → length (f k) ≡ w) → length (concat (map f (upto n))) ≡ w * n
+  length-pieces w n h = length-concat f w h (upto n) ∙ ap (λ m. w * m) (length-ups n)
+
+  -- the pieces of a list's elements, place by place
+  pieces-are : {A : Type 0} (g : A → List ℕ) (d : A) (xs : List A) (i : ℕ) → ((k : ℕ) → k < length xs → g (getD xs k d) ≡ f (i + k))
+      → concat (map g xs) ≡ concat (map f (uptoFrom i (length xs)))
+  pieces-are g d [] i h = refl
+  pieces-are g d (x ∷ xs) i h =
+      ap₂ {C = List ℕ} (λ a r. a ++ r) (h 0 (omega arith) ∙ ap f (add-zero i))
+      (pieces-are g d xs (suc i) (λ k l. h (suc k) (omega arith) ∙ ap f (suc-across i k)))
+
+-- ---- the lengths, and one more at the end
+
+pub length-numbers : (picks : List ℕ) (n : ℕ) → length (numbersIn picks n) ≡ 2 * n
+unfolding numbersIn
+length-numbers picks n = length-pieces (λ k. digits 2 (getD picks k 0)) 2 n (λ k. length-digits 2 (getD picks k 0))
+
+pub numbers-none : (picks : List ℕ) → numbersIn picks 0 ≡ []
+unfolding numbersIn
+numbers-none picks = refl
+
+pub numbers-more : (picks : List ℕ) (n : ℕ) → numbersIn picks (n + 1) ≡ numbersIn picks n ++ digits 2 (getD picks n 0)
+unfolding numbersIn
+numbers-more picks n = pieces-last (λ k. digits 2 (getD picks k 0)) n
+
+pub length-first-bytes : (picks : List ℕ) (n worth trials : ℕ) → length (firstBytes picks n worth trials) ≡ 19 + 2 * n
+unfolding firstBytes
+length-first-bytes picks n worth trials = simp (length-append, length-digits, length-numbers) (omega arith)
+
+pub length-slot-bytes : (active word limit : ℕ) → length (slotBytes active word limit) ≡ 23
+unfolding slotBytes
+length-slot-bytes active word limit = simp (length-append, length-digits) (omega arith)
+
+module _ (actives words limits : List ℕ) where
+  -- the line of slot s
+  abbrev slotAt : ℕ → List ℕ
+  slotAt s = slotBytes (getD actives s 0) (getD words s 0) (getD limits s 0)
+
+  pub length-slots-bytes : (n : ℕ) → length (slotsBytes actives words limits n) ≡ 23 * n
+  unfolding slotsBytes
+  length-slots-bytes n = length-pieces slotAt 23 n (λ s. length-slot-bytes (getD actives s 0) (getD words s 0) (getD limits s 0))
+
+  pub slots-none : slotsBytes actives words limits 0 ≡ []
+  unfolding slotsBytes
+  slots-none = refl
+
+  pub slots-more : (n : ℕ) → slotsBytes actives words limits (n + 1)
+      ≡ slotsBytes actives words limits n ++ slotBytes (getD actives n 0) (getD words n 0) (getD limits n 0)
+  unfolding slotsBytes
+  slots-more n = pieces-last slotAt n
+
+-- ---- writes after each other
+
+-- a line: four fields and an LF
+pub write-line : (l l₁ l₂ l₃ l₄ : List ℕ) (at p₂ p₃ p₄ p₅ : ℕ) (a b c d : List ℕ)
+    → l₁ ≡ written l at a → l₂ ≡ written l₁ p₂ b → l₃ ≡ written l₂ p₃ c → l₄ ≡ written l₃ p₄ d
+    → p₂ ≡ at + length a → p₃ ≡ p₂ + length b → p₄ ≡ p₃ + length c → p₅ ≡ p₄ + length d → p₅ + 1 ≤ length l
+    → set l₄ p₅ 10 ≡ written l at (a ++ b ++ c ++ d ++ lf)
+write-line l l₁ l₂ l₃ l₄ at p₂ p₃ p₄ p₅ a b c d e₁ e₂ e₃ e₄ q₂ q₃ q₄ q₅ h =
+    let w₂ : l₂ ≡ written l at (a ++ b) = e₂ ∙ write-on l l₁ at p₂ a b e₁ q₂ (omega arith) in
+    let n₂ : length (a ++ b) ≡ length a + length b = length-append a b in
+    let w₃ : l₃ ≡ written l at ((a ++ b) ++ c) = e₃ ∙ write-on l l₂ at p₃ (a ++ b) c w₂ (omega arith) (omega arith) in
+    let n₃ : length ((a ++ b) ++ c) ≡ length a + length b + length c = length-append (a ++ b) c ∙ (omega arith) in
+    let w₄ : l₄ ≡ written l at (((a ++ b) ++ c) ++ d) = e₄ ∙ write-on l l₃ at p₄ ((a ++ b) ++ c) d w₃ (omega arith) (omega arith) in
+    let n₄ : length (((a ++ b) ++ c) ++ d) ≡ length a + length b + length c + length d = length-append ((a ++ b) ++ c) d ∙ (omega arith) in
+    let n : length l₄ ≡ length l = ap length w₄ ∙ length-written l at (((a ++ b) ++ c) ++ d) (omega arith) in
+    write-byte l₄ p₅ 10 (omega arith)
+    ∙ write-on l l₄ at p₅ (((a ++ b) ++ c) ++ d) lf w₄ (omega arith) (omega arith)
+    ∙ ap (written l at) (simp append-assoc)
+
+pub slot-written : (l l₁ l₂ l₃ l₄ : List ℕ) (at p₂ p₃ p₄ p₅ active word limit : ℕ) → l₁ ≡ written l at (digits 2 5) → l₂ ≡ written l₁ p₂ (digits 8 active)
+    → l₃ ≡ written l₂ p₃ (digits 8 word) → l₄ ≡ written l₃ p₄ (digits 4 limit) → p₂ ≡ at + 2 → p₃ ≡ at + 10 → p₄ ≡ at + 18 → p₅ ≡ at + 22
+    → at + 23 ≤ length l → set l₄ p₅ 10 ≡ written l at (slotBytes active word limit)
+unfolding slotBytes
+slot-written l l₁ l₂ l₃ l₄ at p₂ p₃ p₄ p₅ active word limit e₁ e₂ e₃ e₄ q₂ q₃ q₄ q₅ h =
+    write-line l l₁ l₂ l₃ l₄ at p₂ p₃ p₄ p₅ (digits 2 5) (digits 8 active) (digits 8 word) (digits 4 limit) e₁ e₂ e₃ e₄
+    (rw length-digits q₂) (rw length-digits (omega arith)) (rw length-digits (omega arith)) (rw length-digits (omega arith)) (omega arith)
+
+pub first-written : (l l₁ l₂ l₃ l₄ picks : List ℕ) (p₂ p₃ p₄ p₅ n worth trials : ℕ) → l₁ ≡ written l 0 (digits 2 4) → l₂ ≡ written l₁ p₂ (digits 8 worth)
+    → l₃ ≡ written l₂ p₃ (digits 8 trials) → l₄ ≡ written l₃ p₄ (numbersIn picks n) → p₂ ≡ 2 → p₃ ≡ 10 → p₄ ≡ 18 → p₅ ≡ 18 + 2 * n
+    → 19 + 2 * n ≤ length l → set l₄ p₅ 10 ≡ written l 0 (firstBytes picks n worth trials)
+unfolding firstBytes
+first-written l l₁ l₂ l₃ l₄ picks p₂ p₃ p₄ p₅ n worth trials e₁ e₂ e₃ e₄ q₂ q₃ q₄ q₅ h =
+    write-line l l₁ l₂ l₃ l₄ 0 p₂ p₃ p₄ p₅ (digits 2 4) (digits 8 worth) (digits 8 trials) (numbersIn picks n) e₁ e₂ e₃ e₄
+    (rw length-digits (omega arith)) (rw length-digits (omega arith)) (rw length-digits (omega arith)) (rw length-numbers (omega arith)) (omega arith)
+
+-- one more number, and one more slot line
+pub numbers-go : (l l′ l″ picks : List ℕ) (at p k n : ℕ) → l′ ≡ written l at (numbersIn picks k) → l″ ≡ written l′ p (digits 2 (getD picks k 0))
+    → p ≡ at + 2 * k → k < n → at + 2 * n ≤ length l → l″ ≡ written l at (numbersIn picks (k + 1))
+numbers-go l l′ l″ picks at p k n e f q few h =
+    f
+    ∙ write-on l l′ at p (numbersIn picks k) (digits 2 (getD picks k 0)) e (rw length-numbers q) (rw length-digits (omega arith))
+    ∙ ap (written l at) (sym (numbers-more picks k))
+
+pub slots-go : (l l′ l″ actives words limits : List ℕ) (p s n : ℕ) → l′ ≡ written l 0 (slotsBytes actives words limits s)
+    → l″ ≡ written l′ p (slotBytes (getD actives s 0) (getD words s 0) (getD limits s 0)) → p ≡ 23 * s → s < n → 23 * n ≤ length l
+    → l″ ≡ written l 0 (slotsBytes actives words limits (s + 1))
+slots-go l l′ l″ actives words limits p s n e f q few h =
+    f
+    ∙ write-on l l′ 0 p (slotsBytes actives words limits s) (slotBytes (getD actives s 0) (getD words s 0) (getD limits s 0)) e
+    (rw length-slots-bytes (omega arith)) (rw length-slot-bytes (omega arith))
+    ∙ ap (written l 0) (sym (slots-more actives words limits s))
+
+-- ---- the slot lines after the first line
+
+-- a write from the start of the part after a place
+rest-written : (l l′ xs : List ℕ) (a : ℕ) → a ≤ length l → l′ ≡ written (take (length l - a) (drop a l)) 0 xs
+    → take a l ++ (l′ ++ drop (length l - a) (drop a l)) ≡ written l a xs
+rest-written l l′ xs a h e =
+    let n : length l - a ≡ length (drop a l) = sym (length-drop a l) in
+    rw (e, n, take-length, drop-length, append-nil) (written-part l a 0 xs h ∙ ap (λ k. written l k xs) (add-zero a))
+
+pub sheet-written : (l l₁ l₂ picks actives words limits : List ℕ) (p slots n worth trials : ℕ) → l₁ ≡ written l 0 (firstBytes picks n worth trials)
+    → l₂ ≡ written (take (length l₁ - p) (drop p l₁)) 0 (slotsBytes actives words limits slots) → p ≡ 19 + 2 * n → 19 + 2 * n + 23 * slots ≤ length l
+    → take p l₁ ++ (l₂ ++ drop (length l₁ - p) (drop p l₁)) ≡ written l 0 (firstBytes picks n worth trials ++ slotsBytes actives words limits slots)
+sheet-written l l₁ l₂ picks actives words limits p slots n worth trials e f q h =
+    let first = firstBytes picks n worth trials in
+    let rest = slotsBytes actives words limits slots in
+    let i : length first ≡ 19 + 2 * n = length-first-bytes picks n worth trials in
+    let j : length rest ≡ 23 * slots = length-slots-bytes actives words limits slots in
+    let k : length l₁ ≡ length l = ap length e ∙ length-written l 0 first (omega arith) in
+    rest-written l₁ l₂ rest p (omega arith) f ∙ write-on l l₁ 0 p first rest e (omega arith) (omega arith)
+
+-- ---- Q as a word
+
+pub word-is : (reactive base w : ℕ) → (base ≤ reactive → w ≡ reactive - base) → (reactive < base → w ≡ 2 ^ 32 - (base - reactive))
+    → w ≡ unsigned 32 (subℕ reactive base)
+unfolding unsigned
+word-is reactive base w over under = go (split reactive base)
+  where
+    go : (reactive < base) ⊎ (base ≤ reactive) → w ≡ unsigned 32 (subℕ reactive base)
+    go (inl x) = sym (ap (unsigned 32) (sub-neg reactive base x) ∙ (omega (arith, under x)))
+    go (inr x) = sym (ap (unsigned 32) (sub-pos reactive base x) ∙ sym (over x))
+
+-- ---- the lines of the definitions
+
+-- a choice of n loads whose numbers stand in an array
+module _ (c : Choice) (picks : List ℕ) (n : ℕ) (count : length c ≡ n) (h : (k : ℕ) → k < n → getD c k noSetting .number ≡ getD picks k 0) where
+  pub numbers-are : numbersOf c ≡ numbersIn picks n
+  unfolding numbersOf numbersIn
+  numbers-are =
+      pieces-are (λ k. digits 2 (getD picks k 0)) (λ (v : Setting). digits 2 (v .number)) noSetting c 0
+      (λ k l. ap (digits 2) (h k (omega arith)) ∙ ap (λ j. digits 2 (getD picks j 0)) (sym (zero-add k)))
+      ∙ ap (λ m. concat (map (λ k. digits 2 (getD picks k 0)) (upto m))) count
+
+  pub first-is : (t : ℕ) → firstBytes picks n (worthOf c) t ≡ firstLine c t
+  unfolding firstBytes firstLine
+  first-is t = rw numbers-are
+
+-- a slot line, and those of the slots of a book's limits
+pub slot-is : (c : Choice) (s active word limit limit′ : ℕ) → active ≡ sumIn s c .p → word ≡ unsigned 32 (sumIn s c .q) → limit′ ≡ limit
+    → slotLine limit (sumIn s c) ≡ slotBytes active word limit′
+unfolding slotLine slotBytes
+slot-is c s active word limit limit′ p q l = rw (p, q, l)
+
+module _ (n d : ℕ) (c : Choice) (actives words limits′ : List ℕ) where
+  slots-from : (i : ℕ) (limits : List ℕ) → ((s : ℕ) → i ≤ s → s < i + length limits → getD actives s 0 ≡ sumIn s c .p)
+      → ((s : ℕ) → i ≤ s → s < i + length limits → getD words s 0 ≡ unsigned 32 (sumIn s c .q))
+      → ((s : ℕ) → s < length limits → getD limits′ (i + s) 0 ≡ getD limits s 0)
+      → slotLines (slotsFrom n d i limits) c ≡ concat (map (slotAt actives words limits′) (uptoFrom i (length limits)))
+  unfolding slotLines
+  slots-from i [] ps qs ls = refl
+  slots-from i (x ∷ limits) ps qs ls =
+      ap₂ {C = List ℕ} (λ a r. a ++ r)
+      (slot-is c i (getD actives i 0) (getD words i 0) x (getD limits′ i 0) (ps i (omega arith) (omega arith)) (qs i (omega arith) (omega arith))
+      (ap (λ j. getD limits′ j 0) (sym (add-zero i)) ∙ ls 0 (omega arith)))
+      (slots-from (suc i) limits (λ s l m. ps s (omega arith) (omega arith)) (λ s l m. qs s (omega arith) (omega arith))
+      (λ s l. ap (λ j. getD limits′ j 0) (sym (suc-across i s)) ∙ ls (suc s) (omega arith)))
+
+  pub slots-are : (limits : List ℕ) → ((s : ℕ) → s < length limits → getD actives s 0 ≡ sumIn s c .p)
+      → ((s : ℕ) → s < length limits → getD words s 0 ≡ unsigned 32 (sumIn s c .q))
+      → ((s : ℕ) → s < length limits → getD limits′ s 0 ≡ getD limits s 0)
+      → slotLines (slotsFrom n d 0 limits) c ≡ slotsBytes actives words limits′ (length limits)
+  unfolding slotsBytes
+  slots-are limits ps qs ls =
+      slots-from 0 limits (λ s l m. ps s (omega arith)) (λ s l m. qs s (omega arith))
+      (λ s l. ap (λ j. getD limits′ j 0) (zero-add s) ∙ ls s l)
