@@ -1,7 +1,2 @@
--- Laws that the functions' proofs cite, by subject.
-pub mod ArrayLaws
-pub mod SlotLaws
-pub mod CountLaws
-pub mod ExtentLaws
-pub mod MoveLaws
+-- Laws that the functions' proofs cite.
 pub mod LayoutLaws

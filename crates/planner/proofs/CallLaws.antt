@@ -5,21 +5,20 @@ use mathlib.Core.List.{List, []}
 use mathlib.Core.Option.{some}
 use Prim.Native.Nat.{ℕ, _<_, _≤_}
 use lib.Dec.{ltb}
-use lib.ListN.{length, drop}
+use lib.ListN.{length}
 use borrow.Author.Tests.{lt-ltb, le-ltb}
 use Rattle.model.specs.declared.Refusal.{Refusal}
 use Rattle.model.specs.declared.Answer.{Answer}
-use Rattle.model.specs.declared.Refusal.the-variants.{TooManyCells, WorkTooSmall, BufferTooSmall, BudgetExceeded}
-use Rattle.model.specs.Refusals.{Result, refused, done, first, checked, andThen}
+use Rattle.model.specs.declared.Refusal.the-variants.{BudgetExceeded}
+use Rattle.model.specs.Refusals.{Result, refused, done, checked, andThen}
 use Rattle.model.specs.Book.{Problem, readBook}
 use Rattle.model.specs.Choice.{Choice}
 use Rattle.model.specs.Grid.{plan}
-use Rattle.model.specs.Trials.{cells, neededWords, trials, WordsKept}
-use Rattle.model.specs.Sheet.{sheetOf, sheetLength}
-use Rattle.model.specs.Calls.{sizeRules, fitting, fittingBook, choiceOr, planSheet, plannerResult, freeFor, freeWords}
+use Rattle.model.specs.Trials.{trials, WordsKept}
+use Rattle.model.specs.Sheet.{sheetOf}
+use Rattle.model.specs.Calls.{fitting, fittingBook, choiceOr, planSheet, plannerResult, freeFor, freeWords}
 use Rattle.model.specs.Answers.{Output, refusalAnswer, Writes}
-use Rattle.model.specs.Bounds.{mostCells}
-use Rattle.model.proofs.RefusalLaws.{first-here, first-next, first-last}
+use Rattle.model.proofs.RefusalLaws.{first-here, first-last}
 use Rattle.model.proofs.AnswerLaws.{refused-writes}
 use Rattle.planner.specs.Planner.{fittedPlan}
 
@@ -35,31 +34,6 @@ planner-is book words room = then-assoc (readBook book) (fitting words room) pla
 pub free-is : (book : List ℕ) (words room : ℕ) → freeWords book words room ≡ freeFor (andThen (readBook book) (fitting words room))
 unfolding freeWords fittingBook
 free-is book words room = refl
-
-module _ (words room : ℕ) (b : Problem) where
-  pub fit-many : mostCells < cells b → fitting words room b ≡ refused TooManyCells 0
-  unfolding sizeRules
-  fit-many h = ap (λ f. checked 0 f (done b)) (first-here TooManyCells _ (ltb mostCells (cells b)) (lt-ltb _ _ h))
-
-  past-cells : cells b ≤ mostCells → first (sizeRules b words room) ≡ first (drop 1 (sizeRules b words room))
-  unfolding sizeRules
-  past-cells h = first-next TooManyCells _ (ltb mostCells (cells b)) (le-ltb _ _ h)
-
-  pub fit-small : cells b ≤ mostCells → words < neededWords b → fitting words room b ≡ refused WorkTooSmall 0
-  unfolding sizeRules
-  fit-small h k = ap (λ f. checked 0 f (done b)) (past-cells h ∙ first-here WorkTooSmall _ (ltb words (neededWords b)) (lt-ltb _ _ k))
-
-  past-words : cells b ≤ mostCells → neededWords b ≤ words → first (sizeRules b words room) ≡ first (drop 2 (sizeRules b words room))
-  unfolding sizeRules
-  past-words h k = past-cells h ∙ first-next WorkTooSmall _ (ltb words (neededWords b)) (le-ltb _ _ k)
-
-  pub fit-short : cells b ≤ mostCells → neededWords b ≤ words → room < sheetLength b → fitting words room b ≡ refused BufferTooSmall 0
-  unfolding sizeRules
-  fit-short h k l = ap (λ f. checked 0 f (done b)) (past-words h k ∙ first-here BufferTooSmall [] (ltb room (sheetLength b)) (lt-ltb _ _ l))
-
-  pub fit-done : cells b ≤ mostCells → neededWords b ≤ words → sheetLength b ≤ room → fitting words room b ≡ done b
-  unfolding sizeRules
-  fit-done h k l = ap (λ f. checked 0 f (done b)) (past-words h k ∙ first-last BufferTooSmall (ltb room (sheetLength b)) (le-ltb _ _ l))
 
 module _ (b : Problem) where
   abbrev due : Result Output

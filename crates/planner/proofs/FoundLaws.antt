@@ -16,9 +16,9 @@ use Rattle.model.specs.Values.{Held, problemOf, Picked, choiceOf}
 use Rattle.model.proofs.PlanLaws.{plan-is}
 use Rattle.model.proofs.ValidLaws.{plan-some}
 use Rattle.model.proofs.HeldLaws.{held-valid, held-count}
-use Rattle.planner.specs.declared.Search.{Search}
-use Rattle.planner.specs.Planner.{Found}
-use Rattle.planner.proofs.PickLaws.{code-picked, code-choice}
+use Rattle.found.specs.declared.Search.{Search}
+use Rattle.found.specs.Found.{Found}
+use Rattle.found.proofs.PickLaws.{code-picked, code-choice}
 use Rattle.planner.proofs.CallLaws.{plan-within}
 
 module _ (v : Book) (held : Held v) (s : Search) (found : Found (problemOf v) s) (within : s .within ≡ true) (picks : List ℕ)

@@ -5,8 +5,8 @@ use native.Mathlib.Omega.{arith}
 use borrow.Author.Needs.{needs}
 use lib.ListN.{getD}
 use Rattle.model.specs.Bounds.{mostCells}
-use Rattle.layout.specs.Layout.{Laid}
-use Rattle.layout.proofs.ExtentLaws.{Reach, reach-none, reach-more, back-one, rows-fit, columns-fit}
+use Rattle.slots.specs.Slots.{Laid}
+use Rattle.slots.proofs.ExtentLaws.{Reach, reach-none, reach-more, back-one, rows-fit, columns-fit}
 use Rattle.layout.proofs.extent_of.Statement.{statement}
 use Rattle.layout.proofs.extent_of.Tie as tie
 

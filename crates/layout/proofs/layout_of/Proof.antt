@@ -1,7 +1,7 @@
 -- `layout::layout_of` meets its contract. Assumes nothing.
 use native.Mathlib.Omega.{arith}
-use Rattle.layout.specs.Layout.{Laid}
-use Rattle.layout.proofs.SlotLaws.{laid}
+use Rattle.slots.specs.Slots.{Laid}
+use Rattle.slots.proofs.SlotLaws.{laid}
 use Rattle.layout.proofs.LayoutLaws.{layout-is}
 use Rattle.layout.proofs.layout_of.Statement.{statement}
 use Rattle.layout.proofs.layout_of.Tie as tie

@@ -1,14 +1,16 @@
--- `planner::plan_book` meets its contract: refusals 9 to 11 in order, and then the plan. Assumes nothing.
-use mathlib.Core.Path.{sym, ap, subst}
+-- `planner::plan_book` meets its contract: a refusal of 9 to 11, or the plan. Assumes nothing.
+use mathlib.Core.Path.{_≡_, sym, ap, _∙_, subst}
 use lib.ListN.{length}
-use Rattle.model.specs.Refusals.{andThen}
+use Rattle.model.specs.declared.Finding.the-variants.{Passed}
+use Rattle.model.specs.Refusals.{first, andThen, checked, done}
 use Rattle.model.specs.Trials.{WordsKept}
-use Rattle.model.specs.Calls.{planSheet, freeFor}
+use Rattle.model.specs.Calls.{sizeRules, planSheet, freeFor}
 use Rattle.model.specs.Values.{problemOf}
 use Rattle.model.proofs.AnswerLaws.{writes-same}
 use native.Mathlib.Omega.{arith}
 use borrow.Author.Needs.{needs}
-use Rattle.planner.proofs.CallLaws.{fit-many, fit-small, fit-short, fit-done, size-refused}
+use Rattle.fits.proofs.SizeLaws.{fits-words, fits-room, fits-exact}
+use Rattle.planner.proofs.CallLaws.{size-refused}
 use Rattle.planner.proofs.plan_book.Statement.{statement}
 use Rattle.planner.proofs.plan_book.Tie as tie
 
@@ -18,62 +20,41 @@ slots-of-requires c κs = search needs
 cells-of-requires : tie.Need-cells-of-requires
 cells-of-requires c κs = search needs
 
+size-finding-requires : tie.Need-size-finding-requires
+size-finding-requires c κs = search needs
+
+-- the book that has none of refusals 9 to 11
+passed : (c : tie.After-size-finding) → c .size-finding .result ≡ Passed
+    → first (sizeRules (problemOf (c .before .before .before .before .before .args .book)) (length (c .before .before .before .before .before .args .work .now)) (length (c .before .before .before .before .before .args .sheet .now))) ≡ Passed
+passed c e = sym (c .size-finding .ensures) ∙ e
+
+enum-known-finding : tie.Need-enum-known-finding
+enum-known-finding c = search needs
+
 refusal-requires : tie.Need-refusal-requires
 refusal-requires c κs = search needs
 
 returns : tie.Need-returns
 returns c =
-    let a = c .before .before .before .before .before .before .args in
-    size-refused (a .work .now) (a .sheet .now) (problemOf (a .book)) _ _ (c .refusal .ensures)
-    (fit-many _ _ _ (c .before .before .cells-of .ensures .over (c .before .if1 .taken)))
-
-mul-if2 : tie.Need-mul-if2
-mul-if2 c = search needs
-
-refusal-requires-2 : tie.Need-refusal-requires-2
-refusal-requires-2 c κs = search needs
-
-returns-2 : tie.Need-returns-2
-returns-2 c =
-    let a = c .before .before .before .before .before .before .before .args in
-    let n = c .before .before .before .cells-of .ensures .exact (omega (arith, c .before .before .if1 .left)) in
-    size-refused (a .work .now) (a .sheet .now) (problemOf (a .book)) _ _ (c .refusal2 .ensures)
-    (fit-small _ _ _ (omega (arith, n, c .before .before .if1 .left)) (omega (arith, n, c .before .if2 .taken)))
-
-sheet-length-requires : tie.Need-sheet-length-requires
-sheet-length-requires c κs = search needs
-
-refusal-requires-3 : tie.Need-refusal-requires-3
-refusal-requires-3 c κs = search needs
-
-returns-3 : tie.Need-returns-3
-returns-3 c =
     let a = c .before .before .before .before .before .before .before .before .before .args in
-    let n = c .before .before .before .before .before .cells-of .ensures .exact (omega (arith, c .before .before .before .before .if1 .left)) in
-    size-refused (a .work .now) (a .sheet .now) (problemOf (a .book)) _ _ (c .refusal3 .ensures)
-    (fit-short _ _ _ (omega (arith, n, c .before .before .before .before .if1 .left)) (omega (arith, n, c .before .before .before .if2 .left))
-    (omega (arith, c .before .before .sheet-length .ensures, c .before .if3 .taken)))
+    let g = sym (c .before .before .before .before .size-finding .ensures) ∙ c .before .before .finding .given .1 in
+    size-refused (a .work .now) (a .sheet .now) (problemOf (a .book)) _ _ (c .refusal .ensures) (ap (λ f. checked 0 f (done (problemOf (a .book)))) g)
+
+enum-told : tie.Need-enum-told
+enum-told c = search needs
 
 layout-of-requires : tie.Need-layout-of-requires
 layout-of-requires c κs =
-    let few = c .before .before .before .if1 .left in (
-      c .before .before .before .before .before .before .before .before .pre,
-      (c .before .before .before .before .before .slots-of .ensures, (c .before .before .before .before .cells-of .ensures .exact (omega (arith, few)), omega (arith, few))),
-    )
+    let p = passed (c .before .before) (c .enum-told .given .1) in
+    (c .before .before .before .before .before .before .before .pre, (c .before .before .before .before .slots-of .ensures, fits-exact _ _ _ p _ (c .before .before .before .cells-of .ensures)))
 
 plan-for-requires : tie.Need-plan-for-requires
 plan-for-requires c κs =
-    let n = c .before .before .before .before .before .before .before .cells-of .ensures .exact (omega (arith, c .before .before .before .before .before .before .if1 .left)) in (
-      c .before .before .before .before .before .before .before .before .before .before .before .pre,
+    let p = passed (c .before .before .before .before .before) (c .before .before .before .enum-told .given .1) in (
+      c .before .before .before .before .before .before .before .before .before .before .pre,
       (
-        c .before .before .before .before .before .before .before .before .slots-of .ensures,
-        (
-          c .before .before .layout-of .ensures,
-          (
-            omega (arith, n, c .before .before .before .before .before .if2 .left),
-            omega (arith, c .before .before .before .before .sheet-length .ensures, c .before .before .before .if3 .left),
-          ),
-        ),
+        c .before .before .before .before .before .before .before .slots-of .ensures,
+        (c .before .before .layout-of .ensures, (fits-words _ _ _ p, fits-room _ _ _ p)),
       ),
     )
 
@@ -83,15 +64,12 @@ same-length c = search needs
 same-length-2 : tie.Need-same-length-2
 same-length-2 c = search needs
 
-returns-4 : tie.Need-returns-4
-returns-4 c =
-    let a = c .before .before .before .before .before .before .before .before .before .before .before .before .before .before .before .before .args in
-    let few = c .before .before .before .before .before .before .before .before .before .before .before .if1 .left in
-    let n = c .before .before .before .before .before .before .before .before .before .before .before .before .cells-of .ensures .exact (omega (arith, few)) in
-    let p = c .before .before .before .before .plan-for .ensures in
-    let e = fit-done (length (a .work .now)) (length (a .sheet .now)) (problemOf (a .book)) (omega (arith, n, few))
-    (omega (arith, n, c .before .before .before .before .before .before .before .before .before .before .if2 .left))
-    (omega (arith, c .before .before .before .before .before .before .before .before .before .sheet-length .ensures, c .before .before .before .before .before .before .before .before .if3 .left)) in (
+returns-2 : tie.Need-returns-2
+returns-2 c =
+    let a = c .before .before .before .before .before .before .before .before .before .before .before .before .before .before .before .args in
+    let e = ap (λ f. checked 0 f (done (problemOf (a .book))))
+    (passed (c .before .before .before .before .before .before .before .before .before .before) (c .before .before .before .before .before .before .before .before .enum-told .given .1)) in
+    let p = c .before .before .before .before .plan-for .ensures in (
       writes-same (ap (λ x. andThen x planSheet) (sym e)) (p .0),
       subst (λ n. WordsKept n (a .work .now) (c .before .before .before .before .plan-for .last .1 .1 .1 .0)) (ap freeFor (sym e)) (p .1),
     )
@@ -102,16 +80,13 @@ plan-book-spec =
     (tie.spec
     slots-of-requires
     cells-of-requires
+    size-finding-requires
+    enum-known-finding
     refusal-requires
     returns
-    mul-if2
-    refusal-requires-2
-    returns-2
-    sheet-length-requires
-    refusal-requires-3
-    returns-3
+    enum-told
     layout-of-requires
     plan-for-requires
     same-length
     same-length-2
-    returns-4)
+    returns-2)

@@ -1,0 +1,2 @@
+-- Laws that the function's proof and the callers cite.
+pub mod SizeLaws

@@ -1,0 +1,2 @@
+-- What the search finds.
+pub mod Found

@@ -1,0 +1,83 @@
+// What the search finds: the trials of a book whose table fits the work area, and the plan's code; and the numbers of a code.
+use layout::Layout;
+use model::Book;
+use slots::Slots;
+ghost use mathlib.Core.Path.{_≡_};
+ghost use Prim.Native.Nat.{_≤_};
+ghost use lib.ListN.{length, take};
+ghost use Rattle.model.specs.Bounds.{mostLoads};
+ghost use Rattle.model.specs.Choice.{decode};
+ghost use Rattle.model.specs.Grid.{slotsOf};
+ghost use Rattle.model.specs.Trials.{neededWords, WordsKept};
+ghost use Rattle.model.specs.Values.{Held, problemOf};
+ghost use Rattle.search.specs.Search.{SlotsIn};
+ghost use Rattle.layout.specs.Layout.{LayoutIs};
+ghost use Rattle.found.specs.Found.{Found};
+
+// Whether the trials are within the budget; if so, their number and the code of the plan.
+pub struct Search {
+    pub within: bool,
+    pub trials: u64,
+    pub code: u64,
+}
+
+// c of each load, from the code of a choice: its digits to the base 4, the lowest first.
+pub fn picks_of(code: u64, count: usize) -> [usize; Book::LOADS]
+    requires { ⌜ count ≤ mostLoads ⌝ }
+    ensures { λ r. ⌜ take count r ≡ decode count code ⌝ }
+{
+    let mut picks = [0usize; Book::LOADS];
+    let mut rest = code;
+    let mut k: usize = 0;
+    while k < count {
+        picks[k] = (rest % 4) as usize;
+        rest = rest / 4;
+        k += 1;
+    }
+    picks
+}
+
+// Searches the table of a book that fits into the work area.
+pub fn search_for(book: Book, slots: Slots, layout: Layout, work: &mut [u64]) -> Search
+    requires { ⌜ Held book ⌝ }
+    requires { ⌜ SlotsIn 0 (slots .steps) (slots .tops) (slots .widths) (book .limits) 0 (slotsOf (problemOf book)) ⌝ }
+    requires { ⌜ LayoutIs (problemOf book) layout ⌝ }
+    requires { ⌜ neededWords (problemOf book) ≤ length (now work) ⌝ }
+    ensures found { λ r. ⌜ Found (problemOf book) r ⌝ }
+    ensures words { λ _. ⌜ WordsKept (neededWords (problemOf book)) (now (work .entry)) (now (work .exit)) ⌝ }
+{
+    let grid = layout.grid;
+    let moves = layout.moves;
+    let count = book.count;
+    let budget = book.budget as usize;
+    let ran = search::search(work, grid, layout.origin, count, moves, budget);
+    let trials = ran.trials;
+    if budget < trials {
+        return Search {
+            within: false,
+            trials: trials as u64,
+            code: 0,
+        };
+    }
+    let lows = ran.lows;
+    let highs = ran.highs;
+    let steps = slots.steps;
+    let widths = slots.widths;
+    let limits = book.limits;
+    let best = scan::scan(
+        work,
+        grid,
+        ran.cur,
+        &lows,
+        &highs,
+        count as u64,
+        steps,
+        widths,
+        limits,
+    );
+    Search {
+        within: true,
+        trials: trials as u64,
+        code: best.code,
+    }
+}

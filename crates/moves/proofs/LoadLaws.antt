@@ -1,0 +1,60 @@
+-- The settings of a load of a book, and what all of them do.
+-- Assumes nothing.
+use Prim.Native.Nat.{ℕ, _+_, _*_, _^_, _<_, _≤_}
+use mathlib.Core.Path.{_≡_, sym, ap, _∙_, subst}
+use mathlib.Core.List.{List, []}
+use native.Mathlib.Nat.{zero-add, pow-succ', pow-le-pow-right, mul-comm}
+use native.Mathlib.Numerals.{add-one}
+use native.Mathlib.Omega.{arith}
+use lib.ListN.{length, getD}
+use Rattle.model.specs.declared.Book.{Book}
+use Rattle.model.specs.declared.Load.{Load}
+use Rattle.model.specs.Lists.{Every}
+use Rattle.model.specs.Grid.{Slot}
+use Rattle.model.specs.Valid.{Labelled, SettingSmall}
+use Rattle.model.specs.Values.{Held, settingOf, problemOf}
+use Rattle.model.specs.Choice.{noSetting}
+use Rattle.model.specs.Bounds.{mostLoads}
+use Rattle.model.proofs.ListLaws.{every-at}
+use Rattle.model.proofs.ValueLaws.{numbered-at}
+use Rattle.model.proofs.HeldLaws.{held-valid, held-count, held-few, held-load}
+use Rattle.pass.specs.declared.SettingMove.{SettingMove}
+use Rattle.pass.specs.Pass.{noMove}
+use Rattle.search.specs.Search.{MoveIs, LoadIs}
+use Rattle.moves.specs.Moves.{LoadHeld}
+use Rattle.moves.proofs.MoveLaws.{load-count}
+
+-- all settings passed
+pub load-all : (x : Load) (h : LoadHeld x) (slots : List Slot) (k : ℕ) (moves : List SettingMove)
+    → ((i : ℕ) → i < x .settings → MoveIs 0 slots k (settingOf (h .settings) i) (getD moves i noMove))
+    → LoadIs 0 slots k (h .settings) (record { count = x .settings; moves = moves })
+load-all x h slots k moves f =
+    record {
+      count-is = load-count x h;
+      count-fits = h .labels .few;
+      ascending = λ m n l j. omega (arith, number m (omega arith), number n j);
+      each = λ n l. f n (omega (arith, load-count x h));
+    }
+  where
+    number : (i : ℕ) → i < length (h .settings) → i ≡ getD (h .settings) i noSetting .number
+    number i l = sym (zero-add i) ∙ numbered-at 0 (h .settings) (h .labels .numbered) i l
+
+-- the settings of load k + 1 of a book's value
+unfoldable pub load-held : (v : Book) (h : Held v) (k : ℕ) (d : Load) → k < v .count → LoadHeld (getD (v .loads) k d)
+load-held v h k d l =
+    record {
+      settings = getD (problemOf v .loads) k [];
+      is = held-load v h k d (omega (arith, held-few v h));
+      labels = every-at Labelled (problemOf v .loads) [] (held-valid v h .loads .labels) k (omega (arith, held-count v h));
+      small = every-at (Every SettingSmall) (problemOf v .loads) [] (held-valid v h .loads .small) k (omega (arith, held-count v h));
+    }
+
+-- what an option counts in the code
+pub unit-small : (unit k : ℕ) → unit ≡ 4 ^ k → k < mostLoads → unit ≤ 70368744177664
+unit-small unit k e l =
+    let four : 0 < 4 = omega arith in
+    let few : k ≤ 23 = omega arith in
+    subst (λ n. n ≤ 70368744177664) (sym e) (pow-le-pow-right four few)
+
+pub unit-more : (unit k : ℕ) → unit ≡ 4 ^ k → unit * 4 ≡ 4 ^ (k + 1)
+unit-more unit k e = ap (λ n. n * 4) e ∙ mul-comm (4 ^ k) 4 ∙ sym (pow-succ' 4 k) ∙ ap (λ n. 4 ^ n) (sym (add-one k))

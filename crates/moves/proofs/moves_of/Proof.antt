@@ -1,0 +1,79 @@
+-- `moves::moves_of` meets its contract. The invariant: the settings passed have their moves. Assumes nothing.
+use Prim.Native.Nat.{ℕ, _-_, _^_, _<_, _≤_}
+use mathlib.Core.Path.{_≡_, refl, _∙_}
+use native.Mathlib.Omega.{arith}
+use borrow.Author.Needs.{needs}
+use lib.ListN.{getD, length, length-set}
+use Rattle.model.specs.Values.{settingOf}
+use Rattle.pass.specs.Pass.{noMove}
+use Rattle.search.specs.Search.{MoveIs}
+use Rattle.slots.specs.Slots.{Laid}
+use Rattle.moves.specs.Moves.{LoadHeld}
+use Rattle.slots.proofs.ArrayLaws.{set-each}
+use Rattle.moves.proofs.MoveLaws.{load-few}
+use Rattle.moves.proofs.LoadLaws.{load-all}
+use Rattle.moves.proofs.moves_of.Statement.{statement}
+use Rattle.moves.proofs.moves_of.Tie as tie
+
+abbrev Inv-loop : tie.InvT-loop
+Inv-loop load unit count slots settings moves₀ c₀ moves c =
+    (c ≤ settings) × (settings ≤ 4) × (length moves ≡ 4)
+    × ((h : LoadHeld load) (l : Laid slots count) (k : ℕ) → unit ≡ 4 ^ k → (i : ℕ) → i < c → MoveIs 0 (l .slots) k (settingOf (h .settings) i) (getD moves i noMove))
+
+abbrev μ-loop : tie.MeasureT-loop
+μ-loop load unit count slots settings moves₀ c₀ moves c = settings - c
+
+no-move-requires : tie.Need-no-move-requires Inv-loop μ-loop
+no-move-requires c κs = search needs
+
+loop-holds : tie.Need-loop-holds Inv-loop μ-loop
+loop-holds c = (omega arith, load-few (c .before .args .load) (c .before .pre .0), refl, λ h l k e i j. absurd (omega arith))
+
+move-of-requires : tie.Need-move-of-requires Inv-loop μ-loop
+move-of-requires c κs =
+    let s = c .before .before .before in
+    (s .pre .0, (s .pre .1 .0, (c .loop-test .taken, s .pre .1 .1)))
+
+mul-moves : tie.Need-mul-moves Inv-loop μ-loop
+mul-moves c = search needs
+
+array-set-from-moves : tie.Need-array-set-from-moves Inv-loop μ-loop
+array-set-from-moves c = search needs
+
+add-c : tie.Need-add-c Inv-loop μ-loop
+add-c c = search needs
+
+loop-less : tie.Need-loop-less Inv-loop μ-loop
+loop-less c = search needs
+
+loop-again : tie.Need-loop-again Inv-loop μ-loop
+loop-again c =
+    let m = c .before .before .loop in (
+      omega arith,
+      m .inv .1,
+      length-set (m .moves) (m .c) (c .move-of .result) ∙ m .inv .2,
+      λ h l k e.
+          set-each (λ i x. MoveIs 0 (l .slots) k (settingOf (h .settings) i) x) (m .moves) (m .c) (c .move-of .result) noMove (omega arith) (c .move-of .ensures h l k e) (m .inv .3 h l k e),
+    )
+
+returns : tie.Need-returns Inv-loop μ-loop
+returns c h l k e =
+    let s = c .before .before .before in
+    let m = c .before .loop in
+    load-all (s .args .load) h (l .slots) k (m .moves) (λ i j. m .inv .3 h l k e i (omega arith))
+
+pub moves-of-spec : {M : Type 1} → statement M
+moves-of-spec =
+    tie.close
+    (tie.spec
+    Inv-loop
+    μ-loop
+    no-move-requires
+    loop-holds
+    move-of-requires
+    mul-moves
+    array-set-from-moves
+    add-c
+    loop-less
+    loop-again
+    returns)

@@ -1,0 +1,2 @@
+-- What a load holds.
+pub mod Moves

@@ -1,0 +1,121 @@
+// What each setting of a book does to a cell of the table.
+use model::Book;
+use model::Load;
+use pass::LoadMoves;
+use pass::SettingMove;
+use slots::Slots;
+ghost use mathlib.Core.Path.{_≡_};
+ghost use mathlib.Core.List.{[]};
+ghost use Prim.Native.Nat.{ℕ, _*_, _^_, _<_, _≤_};
+ghost use lib.ListN.{getD};
+ghost use Rattle.model.specs.Grid.{floorDiv};
+ghost use Rattle.model.specs.Values.{raised, lowered, settingOf, Held, problemOf};
+ghost use Rattle.model.specs.Rounding.{floorBySum};
+ghost use Rattle.search.specs.Search.{movesOf, MoveIs, LoadIs};
+ghost use Rattle.slots.specs.Slots.{Laid};
+ghost use Rattle.moves.specs.Moves.{LoadHeld};
+
+// The grid value of a reactive power, by arithmetic that asks for no sign: `power` is Q + 32,768, so that 32,768 × (L - 1) more make
+// Q + 32,768 × L, and the quotient is the grid value + 32,768. The 32,768 are taken off where the columns move (`down`).
+fn grid_value(power: u64, step: u64) -> u64
+    requires { ⌜ (power ≤ 65536) × (1 ≤ step) × (step ≤ 65535) ⌝ }
+    ensures { λ r. ⌜ r ≡ raised (floorBySum (lowered power) step) ⌝ }
+    ensures { λ _. ⌜ floorBySum (lowered power) step ≡ floorDiv (lowered power) step ⌝ }
+{
+    (power + 32768 * (step - 1)) / step
+}
+
+// What setting c of a load does, where `unit` is what an option counts in the code. Both ways of the columns are raised alike.
+fn move_of(load: Load, c: usize, unit: u64, count: usize, slots: Slots) -> SettingMove
+    requires { ⌜ LoadHeld load ⌝ }
+    requires { ⌜ Laid slots count ⌝ }
+    requires { ⌜ (c < load .settings) × (unit ≤ 70368744177664) ⌝ }
+    ensures { λ r. ⌜ ((h : LoadHeld load) (l : Laid slots count) (k : ℕ) → unit ≡ 4 ^ k → MoveIs 0 (l .slots) k (settingOf (h .settings) c) r) ⌝ }
+{
+    let mut active = [0usize; Book::SLOTS];
+    let mut back: usize = 0;
+    let mut up: usize = 0;
+    let mut down: usize = 0;
+    let mut t = count;
+    while 0 < t {
+        t -= 1;
+        let at = Book::SLOTS * c + t;
+        let step = slots.steps[t];
+        let top = slots.tops[t];
+        let wide = slots.widths[t];
+        let p = load.actives[at];
+        let q = load.reactives[at];
+        let a = (p / step) as usize;
+        let b = grid_value(q, step) as usize;
+        active[t] = a;
+        back = back * top + a;
+        up = up * wide + b;
+        down = down * wide + 32768;
+    }
+    SettingMove {
+        gain: load.worths[c],
+        digit: c as u64 * unit,
+        back,
+        up,
+        down,
+        active,
+    }
+}
+
+// What fills the places of settings that a load does not have.
+fn no_move() -> SettingMove {
+    SettingMove {
+        gain: 0,
+        digit: 0,
+        back: 0,
+        up: 0,
+        down: 0,
+        active: [0; Book::SLOTS],
+    }
+}
+
+// What the settings of a load do.
+fn moves_of(load: Load, unit: u64, count: usize, slots: Slots) -> LoadMoves
+    requires { ⌜ LoadHeld load ⌝ }
+    requires { ⌜ Laid slots count ⌝ }
+    requires { ⌜ unit ≤ 70368744177664 ⌝ }
+    ensures { λ r. ⌜ ((h : LoadHeld load) (l : Laid slots count) (k : ℕ) → unit ≡ 4 ^ k → LoadIs 0 (l .slots) k (h .settings) r) ⌝ }
+{
+    let settings = load.settings;
+    let still = no_move();
+    let mut moves = [still; Load::SETTINGS];
+    let mut c: usize = 0;
+    while c < settings {
+        moves[c] = move_of(load, c, unit, count, slots);
+        c += 1;
+    }
+    LoadMoves {
+        count: settings,
+        moves,
+    }
+}
+
+// What the settings of all loads do; an option of load k + 1 counts 4^k.
+pub fn loads_of(book: Book, slots: Slots) -> [LoadMoves; Book::LOADS]
+    requires { ⌜ Held book ⌝ }
+    requires { ⌜ Laid slots (book .slots) ⌝ }
+    ensures { λ r. ⌜ ((l : Laid slots (book .slots)) (k : ℕ) → k < book .count → LoadIs 0 (l .slots) k (getD (problemOf book .loads) k []) (movesOf r k)) ⌝ }
+{
+    let loads = book.count;
+    let count = book.slots;
+    let still = no_move();
+    let none = LoadMoves {
+        count: 0,
+        moves: [still; Load::SETTINGS],
+    };
+    let mut moves = [none; Book::LOADS];
+    let mut unit: u64 = 1;
+    let mut k: usize = 0;
+    while k < loads {
+        let load = book.loads[k];
+        moves[k] = moves_of(load, unit, count, slots);
+        unit = unit * 4;
+        k += 1;
+    }
+    moves
+}

@@ -1,0 +1,5 @@
+-- Laws that the functions' proofs and the callers cite, by subject.
+pub mod ArrayLaws
+pub mod SlotLaws
+pub mod CountLaws
+pub mod ExtentLaws

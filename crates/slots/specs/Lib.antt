@@ -1,0 +1,2 @@
+-- What the slots of a book are.
+pub mod Slots
