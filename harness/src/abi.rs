@@ -284,3 +284,74 @@ fn value_of(text: &str, above: &BTreeMap<String, u64>) -> Option<u64> {
     let term = |text: &str| text.split(" * ").map(factor).product::<Option<u64>>();
     text.split(" + ").map(term).sum()
 }
+
+#[cfg(test)]
+mod tests {
+    use super::*;
+
+    fn source(text: &str) -> Source {
+        Source {
+            path: "lib.rt",
+            text: text.into(),
+        }
+    }
+
+    #[test]
+    fn types_of_arguments_and_answers() {
+        let line = "pub extern \"C\" fn jadeshuttle_tally(a: &[u16], b: &mut [u32], c: usize) -> u8";
+        let call = calls(&source(line)).expect("a signature").remove(0);
+        let types: Vec<Type> = call.arguments.iter().map(|(_, given)| *given).collect();
+        let slice = |rust, c, written| Type::Slice {
+            of: number(rust, c),
+            written,
+        };
+        let count = Type::Number(number("usize", "size_t"));
+        assert_eq!(
+            types,
+            [slice("u16", "uint16_t", false), slice("u32", "uint32_t", true), count]
+        );
+        assert_eq!(call.answer, Type::Number(number("u8", "uint8_t")));
+    }
+
+    #[test]
+    fn a_line_that_is_not_understood_is_named() {
+        for line in [
+            "extern \"C\" fn jadeshuttle_a(b: u8) -> u8",
+            "pub extern \"C\" fn other(b: u8) -> u8",
+            "pub extern \"C\" fn jadeshuttle_a(",
+            "pub extern \"C\" fn jadeshuttle_a(b: &[i64]) -> u8",
+            "pub extern \"C\" fn jadeshuttle_a(b: u8) -> Load",
+            "pub extern \"C\" fn jadeshuttle_a(b: u8) -> &[u8]",
+        ] {
+            let fault = calls(&source(&format!("// Calls.\n{line}\n"))).expect_err(line);
+            assert!(fault.starts_with("lib.rt:2: ") && fault.ends_with(line), "{fault}");
+        }
+        assert_eq!(calls(&source("")), Err("lib.rt: no call".into()));
+    }
+
+    #[test]
+    fn structs_lie_flat() {
+        let pair = "#[repr(C)]\npub struct Pair {\n    pub one: u64,\n    pub two: Inner,\n}\n";
+        let inner = |of| format!("{pair}#[repr(C)]\npub struct Inner {{\n    pub three: {of},\n}}\n");
+        let found = |text: &str| fields(&source(text), "Pair");
+        assert_eq!(found(&inner("u64")), Ok(vec!["one".into(), "three".into()]));
+        assert!(found(&inner("u32")).is_err_and(|fault| fault.starts_with("lib.rt:8: ")));
+        assert!(found(&inner("u64").replacen("(C)", "(Rust)", 1)).is_err_and(|fault| fault.contains("Pair")));
+        assert!(found(pair).is_err_and(|fault| fault.contains("Inner")));
+    }
+
+    #[test]
+    fn bounds_are_sums_of_products() {
+        let found = |text: &str| {
+            bounds(&source(&format!(
+                "impl Book {{\n    pub const LOADS: usize = 24;\n{text}\n}}"
+            )))
+        };
+        let sheet = found("    pub const SHEET: u64 = 19 + 2 * Book::LOADS;").expect("a bound");
+        assert_eq!(sheet["SHEET"], 67);
+        for value in ["2 * (3 + 4)", "Book::CELLS", "Load::POWERS", "1 - 1"] {
+            let fault = found(&format!("    pub const SHEET: u64 = {value};")).expect_err(value);
+            assert!(fault.starts_with("lib.rt:3: "), "{fault}");
+        }
+    }
+}

@@ -17,9 +17,8 @@ pub struct Trials {
 }
 
 impl Trials {
-    /// None yet. Options are for libtest, and are passed over.
-    #[allow(clippy::new_without_default)]
-    pub fn new() -> Trials {
+    /// Options are for libtest, and are passed over.
+    pub fn from_arguments() -> Trials {
         let words = env::args().skip(1).filter(|word| !word.starts_with('-'));
         Trials {
             start: Instant::now(),

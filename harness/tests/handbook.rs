@@ -16,7 +16,7 @@ const PROVED_TABLE: &str = "crates/model/proofs/AcceptanceTable.antt";
 const FOLDERS: [&str; 6] = [".ci/", "crates/", "docs/", "examples/", "harness/", "include/"];
 
 fn main() -> ExitCode {
-    let mut trials = Trials::new();
+    let mut trials = Trials::from_arguments();
     let needed = ["target/staticlib/libjadeshuttle.a", "target/bin/loadplan", HANDBOOK];
     if project::has(&mut trials, &needed) {
         read(&mut trials).unwrap_or_else(|wrong| trials.fail(HANDBOOK, &wrong));

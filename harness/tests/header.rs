@@ -11,7 +11,7 @@ const HEADER: &str = "include/jadeshuttle.h";
 const WARNINGS: [&str; 6] = ["-pedantic", "-Wall", "-Wextra", "-Werror", "-O2", "-Iinclude"];
 
 fn main() -> ExitCode {
-    let mut trials = Trials::new();
+    let mut trials = Trials::from_arguments();
     if project::has(&mut trials, &[project::ARCHIVE, HEADER]) {
         let scratch = project::scratch(env!("CARGO_TARGET_TMPDIR"), "header");
         declarations(&mut trials, &scratch);

@@ -19,7 +19,7 @@ const CALLGRIND: [&str; 6] = [
 ];
 
 fn main() -> ExitCode {
-    let mut trials = Trials::new();
+    let mut trials = Trials::from_arguments();
     let scratch = project::scratch(env!("CARGO_TARGET_TMPDIR"), "signs");
     match sample(&scratch) {
         Ok(sample) => sample.check(&mut trials),

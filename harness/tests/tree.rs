@@ -5,7 +5,7 @@ use harness::trials::{Trials, Verdict};
 use std::process::ExitCode;
 
 fn main() -> ExitCode {
-    let mut trials = Trials::new();
+    let mut trials = Trials::from_arguments();
     match Tree::read() {
         Ok(tree) => tree.check(&mut trials),
         Err(wrong) => trials.fail("the crates' sources", &wrong),
