@@ -199,7 +199,7 @@ pub fn structs(calls: &[Call]) -> Vec<Struct> {
 /// u64: so none is padded, and field k lies at 8 × k.
 pub fn fields(model: &Source, name: &str) -> Parsed<Vec<String>> {
     let head = format!("pub struct {name} {{");
-    let mut fields = Vec::new();
+    let mut flat = Vec::new();
     for line in model.block(&head, "}")?.iter().filter(|line| !line.is_comment()) {
         let parts = || {
             let text = line.text.trim_start().strip_prefix("pub ")?;
@@ -208,16 +208,16 @@ pub fn fields(model: &Source, name: &str) -> Parsed<Vec<String>> {
                 .filter(|(name, _)| is_name(name))
         };
         match parts() {
-            Some((field, "u64")) => fields.push(field.to_string()),
+            Some((field, "u64")) => flat.push(field.to_string()),
             Some((_, inner)) if inner.starts_with(|c: char| c.is_ascii_uppercase()) => {
-                fields.extend(self::fields(model, inner)?)
+                flat.extend(fields(model, inner)?)
             }
             _ => return Err(line.fault("neither a u64 nor a struct")),
         }
     }
     let above = model.lines().take_while(|line| line.text != head).last();
     match above {
-        Some(Line { text: "#[repr(C)]", .. }) => Ok(fields),
+        Some(Line { text: "#[repr(C)]", .. }) => Ok(flat),
         _ => Err(format!("{}: {name} is not repr(C)", model.path)),
     }
 }

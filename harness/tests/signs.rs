@@ -122,10 +122,7 @@ fn own(profile: &str, counted: fn(&str) -> bool) -> Result<Counts, String> {
 impl Sample {
     fn check(&self, trials: &mut Trials) {
         for (planned, book) in self.books.iter().zip(1..) {
-            trials.check(
-                &format!("book {book} has the same instructions for Q and for -Q"),
-                || planned.check(),
-            );
+            trials.check(&format!("book {book} for Q and for -Q"), || planned.check());
         }
         let totals = || self.books.iter().map(|planned| total(&planned.with));
         let (least, most) = (totals().min().unwrap_or(0), totals().max().unwrap_or(0));

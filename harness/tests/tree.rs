@@ -80,7 +80,11 @@ impl Tree {
 fn files(folder: &str, end: &str) -> Result<Vec<File>, String> {
     let mut found = Vec::new();
     for krate in project::names("crates")? {
-        for path in project::files(&format!("crates/{krate}/{folder}"), end).unwrap_or_default() {
+        let place = format!("crates/{krate}/{folder}");
+        if !project::folder().join(&place).is_dir() {
+            continue;
+        }
+        for path in project::files(&place, end)? {
             found.push(File {
                 text: project::text(&path)?,
                 krate: krate.clone(),
