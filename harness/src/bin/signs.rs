@@ -1,5 +1,5 @@
-//! Plans a sample of books for the instructions of each call to be counted: `signs plus`, or `signs minus` for the same
-//! books with -Q in place of every Q. With a budget of 0 a call ends (12) once all grid values are known, before any search.
+//! Plans a sample of books for `tests/signs.rs` to count the instructions of each call: `signs plus`, or `signs minus` for the
+//! same books with -Q in place of every Q. With a budget of 0 a call ends (12) once all grid values are known, before any search.
 
 use harness::random::Random;
 use harness::reference::book::{Book, Level, Load};

@@ -1,4 +1,4 @@
-//! Times the archive's planner beside a table planner written by hand in Rust: `speed [ROUNDS]`.
+//! Times the archive's planner beside a table planner written by hand in Rust: `speed [ROUNDS]`, built with the profile `speed`.
 
 use harness::reference::{Case, MOST_CELLS};
 use harness::{plan, table, Answer, SHEET_MAX};

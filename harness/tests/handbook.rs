@@ -1,0 +1,172 @@
+//! The handbook: runs and compares what `docs/HANDBOOK.md` shows, computes its tables anew, and looks for what it names: its
+//! examples, its worked book in the proved table, and its paths.
+
+#[path = "handbook/tables.rs"]
+mod tables;
+
+use harness::project::{self, same};
+use harness::trials::{Trials, Verdict};
+use std::process::{Command, ExitCode};
+use tables::TABLES;
+
+const HANDBOOK: &str = "docs/HANDBOOK.md";
+const PROVED_TABLE: &str = "crates/model/proofs/AcceptanceTable.antt";
+
+/// Folders of the project whose files the handbook names.
+const FOLDERS: [&str; 6] = [".ci/", "crates/", "docs/", "examples/", "harness/", "include/"];
+
+fn main() -> ExitCode {
+    let mut trials = Trials::from_arguments();
+    let needed = ["target/staticlib/libjadeshuttle.a", "target/bin/loadplan", HANDBOOK];
+    if project::has(&mut trials, &needed) {
+        read(&mut trials).unwrap_or_else(|wrong| trials.fail(HANDBOOK, &wrong));
+    }
+    trials.finish()
+}
+
+fn read(trials: &mut Trials) -> Verdict {
+    let handbook = project::text(HANDBOOK)?;
+    let (blocks, prose) = blocks(&handbook)?;
+    for block in &blocks {
+        trials.check(&format!("{HANDBOOK}:{}: {}", block.line, block.title()), || {
+            block.check()
+        });
+    }
+    for table in &TABLES {
+        trials.check(&format!("{HANDBOOK}: table of {} computed anew", table.name), || {
+            let (want, got) = table.rows(&prose)?;
+            same(want, got)
+        });
+    }
+    for file in [
+        project::files("examples", ".book")?,
+        project::files("examples", ".sheet")?,
+    ]
+    .concat()
+    {
+        trials.check(&format!("{file} is used"), || used(&file, &blocks));
+    }
+    trials.check("examples/close.book is a row of the proved table", proved_row);
+    trials.check(&format!("{HANDBOOK} names no path that is missing"), || {
+        paths(&handbook)
+    });
+    Ok(())
+}
+
+// ---- blocks
+
+/// A block between fences: the fence's line and what stands on it, and the lines within.
+struct Block<'a> {
+    line: usize,
+    info: &'a str,
+    rows: Vec<&'a str>,
+}
+
+/// The blocks, and the lines outside them.
+fn blocks(handbook: &str) -> Result<(Vec<Block<'_>>, Vec<&str>), String> {
+    let (mut blocks, mut prose, mut open) = (Vec::new(), Vec::new(), None::<Block>);
+    for (text, line) in handbook.lines().zip(1..) {
+        open = match (open, text.strip_prefix("```")) {
+            (None, None) => {
+                prose.push(text);
+                None
+            }
+            (None, Some(info)) => Some(Block {
+                line,
+                info,
+                rows: Vec::new(),
+            }),
+            (Some(mut block), None) => {
+                block.rows.push(text);
+                Some(block)
+            }
+            (Some(block), Some(_)) => {
+                blocks.push(block);
+                None
+            }
+        };
+    }
+    match open {
+        Some(block) => Err(format!("the block at line {} has no end", block.line)),
+        None => Ok((blocks, prose)),
+    }
+}
+
+impl Block<'_> {
+    /// The command on the first line; the rest is what it prints.
+    fn command(&self) -> Option<&str> {
+        self.rows.first()?.strip_prefix("$ ")
+    }
+
+    /// The file whose digits the block has.
+    fn file(&self) -> Option<&str> {
+        self.info
+            .strip_prefix("text ")
+            .filter(|file| file.starts_with("examples/"))
+    }
+
+    fn title(&self) -> String {
+        match (self.command(), self.file()) {
+            (Some(command), _) => format!("$ {command}"),
+            (None, Some(file)) => format!("digits of {file}"),
+            (None, None) => "a block".into(),
+        }
+    }
+
+    /// There is no block that nothing tests.
+    fn check(&self) -> Verdict {
+        match (self.command(), self.file()) {
+            (Some(command), _) => {
+                let want: String = self.rows[1..].iter().map(|row| format!("{row}\n")).collect();
+                // Both outputs as one, in the order of their writing.
+                let (_, printed) = project::run(Command::new("bash").args(["-c", &format!("exec 2>&1; {command}")]))?;
+                same(want, printed)
+            }
+            (None, Some(file)) => same(self.digits(), project::bytes(file)?),
+            (None, None) => Err("neither a command nor the digits of a file".into()),
+        }
+    }
+
+    /// Each row has digits, a bar and words. A row that does not begin with a blank begins a line.
+    fn digits(&self) -> String {
+        let mut text = String::new();
+        for row in &self.rows {
+            if !text.is_empty() && !row.starts_with(' ') {
+                text.push('\n');
+            }
+            let digits = row.split('|').next().unwrap_or(row);
+            text.extend(digits.chars().filter(|&digit| digit != ' '));
+        }
+        text + "\n"
+    }
+}
+
+// ---- what is named
+
+/// Some command has the file as a word.
+fn used(file: &str, blocks: &[Block]) -> Verdict {
+    let mut commands = blocks.iter().filter_map(Block::command);
+    let used = commands.any(|command| command.split([' ', ';']).any(|word| word == file));
+    used.then_some(()).ok_or(format!("no command of {HANDBOOK} uses it"))
+}
+
+/// The book of the worked line stands with its sheet in the proved table.
+fn proved_row() -> Verdict {
+    let quoted = |path: &str| Ok::<_, String>(project::text(path)?.replace('\n', "\\n"));
+    let (book, sheet) = (quoted("examples/close.book")?, quoted("examples/close.sheet")?);
+    let row = format!("overloads \"{book}\"\n    \"{sheet}\"");
+    let found = project::text(PROVED_TABLE)?.contains(&row);
+    found.then_some(()).ok_or(format!("{PROVED_TABLE} has no row\n{row}"))
+}
+
+/// Each path of the project that is named exists.
+fn paths(handbook: &str) -> Verdict {
+    let in_path = |c: char| c.is_ascii_alphanumeric() || "_./-".contains(c);
+    let is_path = |word: &&str| FOLDERS.iter().any(|folder| word.starts_with(folder)) && word.chars().all(in_path);
+    let named = handbook.lines().flat_map(|line| line.split('`')).filter(is_path);
+    let missing: Vec<&str> = named.filter(|path| !project::folder().join(path).exists()).collect();
+    match missing.is_empty() {
+        true => Ok(()),
+        false => Err(format!("missing: {}", missing.join(", "))),
+    }
+}

@@ -1,0 +1,115 @@
+//! The handbook's tables of cells, fineness and relay settings, computed anew; the first two by the reference.
+
+use harness::reference::grid::{cells, Slot};
+use harness::reference::MOST_CELLS;
+
+/// A table by the start of its head. A row is computed from the numbers that it begins with.
+pub struct Table {
+    pub name: &'static str,
+    head: &'static str,
+    row: fn(&[u64]) -> Option<String>,
+}
+
+pub const TABLES: [Table; 3] = [
+    Table {
+        name: "cells",
+        head: "| T | N | d | cells, R = Nd |",
+        row: cells_row,
+    },
+    Table {
+        name: "fineness",
+        head: "| N | T = 1 | T = 2 |",
+        row: fineness_row,
+    },
+    Table {
+        name: "relay",
+        head: "| d | 1 + 3/(2d), rounded up |",
+        row: relay_row,
+    },
+];
+
+impl Table {
+    /// The rows as they should be and as they are.
+    pub fn rows(&self, prose: &[&str]) -> Result<(String, String), String> {
+        let after = prose.iter().skip_while(|line| !line.starts_with(self.head));
+        let rows = after.skip(2).take_while(|line| line.starts_with('|'));
+        let (mut want, mut got) = (String::new(), String::new());
+        for row in rows {
+            let columns = row.split('|').skip(1);
+            let numbers: Vec<u64> = columns.map_while(|column| column.trim().parse().ok()).collect();
+            let computed = (self.row)(&numbers).unwrap_or("a row that begins with numbers above 0".into());
+            want += &format!("{computed}\n");
+            got += &format!("{row}\n");
+        }
+        match got.is_empty() {
+            true => Err(format!("there is no table '{}'", self.head)),
+            false => Ok((want, got)),
+        }
+    }
+}
+
+fn cells_row(numbers: &[u64]) -> Option<String> {
+    let [slots, loads, fineness] = first(numbers)?;
+    let [least, most] = cells_of(slots, loads, fineness).map(size_columns);
+    Some(format!("| {slots} | {loads} | {fineness} | {least} | {most} |"))
+}
+
+/// The cells of T live slots of the same size with R = N × d, and with the largest R, 2 × N × d - 1. Where S is under
+/// 2 × N × d, the step is 1 and R is S.
+fn cells_of(slots: u64, loads: u64, fineness: u64) -> [u128; 2] {
+    let least = loads * fineness;
+    [least, 2 * least - 1].map(|limit| {
+        let slot = Slot::new(limit as i64, loads as usize, fineness);
+        cells(&vec![slot; slots as usize])
+    })
+}
+
+/// Cells, words, and MiB rounded up to tenths.
+fn size_columns(cells: u128) -> String {
+    if cells > MOST_CELLS {
+        return "oversize | - | -".into();
+    }
+    let mib = (10 * 32 * cells).div_ceil(1 << 20);
+    format!("{} | {} | {}", commas(cells), commas(4 * cells), tenths(mib))
+}
+
+fn fineness_row(numbers: &[u64]) -> Option<String> {
+    let [loads] = first(numbers)?;
+    let largest = |slots: u64, size: usize| {
+        let fits = |&d: &u64| cells_of(slots, loads, d)[size] <= MOST_CELLS;
+        (1..=64).rev().find(fits).map_or("-".into(), |d| d.to_string())
+    };
+    let columns = (1..=4).map(|slots| format!(" {} / {} |", largest(slots, 0), largest(slots, 1)));
+    Some(format!("| {loads} |{}", columns.collect::<String>()))
+}
+
+/// The factor 1 + 3/(2d), and S = X × 2d / (2d + 3) for both settings X.
+fn relay_row(numbers: &[u64]) -> Option<String> {
+    let [fineness] = first(numbers)?;
+    let twice = 2 * fineness;
+    let factor = (10_000 * (twice + 3)).div_ceil(twice);
+    let limits = [4_000, 6_300].map(|setting| tenths((setting * twice / (twice + 3)).into()));
+    Some(format!(
+        "| {fineness} | {}.{:04} | {} |",
+        factor / 10_000,
+        factor % 10_000,
+        limits.join(" | ")
+    ))
+}
+
+/// The first numbers, if they are there and none is 0.
+fn first<const COUNT: usize>(numbers: &[u64]) -> Option<[u64; COUNT]> {
+    let first: [u64; COUNT] = numbers.get(..COUNT)?.try_into().ok()?;
+    first.iter().all(|&number| number > 0).then_some(first)
+}
+
+fn tenths(number: u128) -> String {
+    format!("{}.{}", number / 10, number % 10)
+}
+
+fn commas(number: u128) -> String {
+    match number {
+        0..1_000 => number.to_string(),
+        _ => format!("{},{:03}", commas(number / 1_000), number % 1_000),
+    }
+}
