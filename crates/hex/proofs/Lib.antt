@@ -1,3 +1,4 @@
--- Laws that the functions' proofs cite.
+-- Laws that the functions' proofs and the callers cite.
 pub mod WrittenLaws
 pub mod FieldLaws
+pub mod RangeLaws

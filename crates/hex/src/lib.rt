@@ -1,9 +1,11 @@
 // Hexadecimal digits, numbers and lines in a slice of bytes, read and written.
 ghost use mathlib.Core.Path.{_≡_};
+ghost use mathlib.Core.Bool.{not};
 ghost use Prim.Native.Nat.{_+_, _≤_, _<_};
 ghost use lib.ListN.{length};
-ghost use Rattle.model.specs.Lists.{all};
+ghost use Rattle.model.specs.Lists.{all, within};
 ghost use Rattle.model.specs.Frames.{isDigit, digitValue, digit, field, digits, lineLength};
+ghost use Rattle.model.specs.Book.{kindRule};
 ghost use Rattle.hex.specs.Written.{written};
 
 fn is_digit(b: u8) -> bool
@@ -104,4 +106,23 @@ pub fn write(buf: &mut [u8], at: usize, n: usize, x: u64)
         buf[at + left] = digit_of(rest % 16);
         rest = rest / 16;
     }
+}
+
+pub fn outside(x: u64, low: u64, high: u64) -> bool
+    ensures { λ r. ⌜ r ≡ not (within low high x) ⌝ }
+{
+    if x < low {
+        return true;
+    }
+    high < x
+}
+
+// Refusal 3 for a line on which this kind is due.
+pub fn wrong_kind(line: &[u8], kind: u64) -> bool
+    ensures { λ r. ⌜ r ≡ kindRule kind (now (line .entry)) .applies ⌝ }
+{
+    if line.len() < 4 {
+        return true;
+    }
+    number(line, 0, 2) != kind
 }

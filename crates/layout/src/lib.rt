@@ -4,7 +4,7 @@ use pass::Grid;
 use pass::LoadMoves;
 use slots::Slots;
 ghost use mathlib.Core.Path.{_≡_};
-ghost use Prim.Native.Nat.{_*_, _<_, _≤_};
+ghost use Prim.Native.Nat.{_≤_};
 ghost use Rattle.model.specs.Bounds.{mostCells};
 ghost use Rattle.model.specs.Grid.{slotsOf};
 ghost use Rattle.model.specs.Trials.{cells};

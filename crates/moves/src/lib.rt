@@ -6,7 +6,7 @@ use pass::SettingMove;
 use slots::Slots;
 ghost use mathlib.Core.Path.{_≡_};
 ghost use mathlib.Core.List.{[]};
-ghost use Prim.Native.Nat.{ℕ, _*_, _^_, _<_, _≤_};
+ghost use Prim.Native.Nat.{ℕ, _^_, _<_, _≤_};
 ghost use lib.ListN.{getD};
 ghost use Rattle.model.specs.Grid.{floorDiv};
 ghost use Rattle.model.specs.Values.{raised, lowered, settingOf, Held, problemOf};

@@ -1,7 +1,7 @@
 // The slots of a book: the step and the sizes of each, and how many cells they come to.
 use model::Book;
 ghost use mathlib.Core.Path.{_≡_};
-ghost use Prim.Native.Nat.{_*_, _<_, _≤_};
+ghost use Prim.Native.Nat.{_≤_};
 ghost use Rattle.model.specs.Bounds.{mostLoads, mostFineness};
 ghost use Rattle.model.specs.Grid.{stepFor, slotsOf};
 ghost use Rattle.model.specs.Trials.{cells};

@@ -1,13 +1,12 @@
 -- `book::read_rest` meets its contract. Assumes nothing.
-use Rattle.model.specs.Values.{freshBook}
-use Rattle.book.proofs.LoadsLaws.{book-refused, book-done}
 use mathlib.Core.Path.{_≡_, sym, ap, ap₂, _∙_}
 use Rattle.model.specs.declared.Reading.{Reading}
 use Rattle.model.specs.Book.{slotCount, loadCount, readLoads}
+use Rattle.model.specs.Values.{freshBook}
 use Rattle.model.proofs.ValidLaws.{loads-valid}
 use Rattle.book.specs.Lines.{loadsReading}
 use Rattle.book.specs.declared.LoadsReading.{LoadsReading}
-use Rattle.book.proofs.LineLaws.{header-line, header-loads}
+use Rattle.header.proofs.HeaderLaws.{header-line, header-loads}
 use Rattle.book.proofs.LoadsLaws.{book-refused, book-done}
 use native.Mathlib.Omega.{arith}
 use borrow.Author.Needs.{needs}

@@ -7,7 +7,6 @@ use Rattle.model.specs.Trials.{WordsKept}
 use Rattle.model.specs.Calls.{sizeRules, planSheet, freeFor}
 use Rattle.model.specs.Values.{problemOf}
 use Rattle.model.proofs.AnswerLaws.{writes-same}
-use native.Mathlib.Omega.{arith}
 use borrow.Author.Needs.{needs}
 use Rattle.fits.proofs.SizeLaws.{fits-words, fits-room, fits-exact}
 use Rattle.planner.proofs.CallLaws.{size-refused}

@@ -1,0 +1,2 @@
+-- What a header line is.
+pub mod Header

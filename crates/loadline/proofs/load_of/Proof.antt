@@ -1,0 +1,100 @@
+-- `loadline::load_of` meets its contract. The invariant: the first k entries of both arrays are filled. Assumes nothing.
+use Prim.Native.Nat.{ℕ, _+_, _≤_, _-_}
+use mathlib.Core.Path.{_≡_, refl, ap}
+use mathlib.Core.List.{map}
+use lib.ListN.{length, take, length-set}
+use Rattle.model.specs.Lists.{upto}
+use Rattle.model.specs.Book.{Settings, settings}
+use Rattle.model.specs.Values.{raised, powerOf, loadValue}
+use Rattle.model.proofs.UptoLaws.{fill-more, fill-all}
+use Rattle.loadline.specs.declared.PowerValue.{PowerValue}
+use Rattle.loadline.proofs.LineLaws.{length-settings}
+use borrow.Author.Needs.{needs}
+use native.Mathlib.Omega.{arith}
+use Rattle.loadline.proofs.load_of.Statement.{statement}
+use Rattle.loadline.proofs.load_of.Tie as tie
+
+abbrev active : Settings → ℕ → ℕ
+active vs k = powerOf vs k .p
+
+abbrev reactive : Settings → ℕ → ℕ
+reactive vs k = raised (powerOf vs k .q)
+
+abbrev Inv-loop : tie.InvT-loop
+Inv-loop line slots count worths actives₀ reactives₀ k₀ actives reactives k = (k ≤ 16) × (length actives ≡ 16) × (length reactives ≡ 16) × (take k actives ≡ map (active (settings slots line)) (upto k)) × (take k reactives ≡ map (reactive (settings slots line)) (upto k))
+
+abbrev μ-loop : tie.MeasureT-loop
+μ-loop line slots count worths actives₀ reactives₀ k₀ actives reactives k = 16 - k
+
+worths-of-requires : tie.Need-worths-of-requires Inv-loop μ-loop
+worths-of-requires c κs = search needs
+
+loop-holds : tie.Need-loop-holds Inv-loop μ-loop
+loop-holds c = (search needs, refl, refl, refl, refl)
+
+power-of-requires : tie.Need-power-of-requires Inv-loop μ-loop
+power-of-requires c κs = search needs
+
+mul-actives : tie.Need-mul-actives Inv-loop μ-loop
+mul-actives c = search needs
+
+array-write-actives : tie.Need-array-write-actives Inv-loop μ-loop
+array-write-actives c = search needs
+
+mul-reactives : tie.Need-mul-reactives Inv-loop μ-loop
+mul-reactives c = search needs
+
+array-write-reactives : tie.Need-array-write-reactives Inv-loop μ-loop
+array-write-reactives c = search needs
+
+add-k : tie.Need-add-k Inv-loop μ-loop
+add-k c = search needs
+
+loop-less : tie.Need-loop-less Inv-loop μ-loop
+loop-less c = search needs
+
+loop-again : tie.Need-loop-again Inv-loop μ-loop
+loop-again c =
+    let a = c .before .before .before .before .before .args in
+    let l = c .before .before .loop in
+    let vs = settings (a .slots) (a .line .now) in (
+      search needs,
+      simp length-set (l .inv .1),
+      simp length-set (l .inv .2),
+      fill-more (active vs) (l .actives) (l .k) _ (omega arith) (ap (λ (x : PowerValue). x .active) (c .power-of .ensures)) (l .inv .3),
+      fill-more (reactive vs) (l .reactives) (l .k) _ (omega arith) (ap (λ (x : PowerValue). x .reactive) (c .power-of .ensures)) (l .inv .4),
+    )
+
+add-t15 : tie.Need-add-t15 Inv-loop μ-loop
+add-t15 c = search needs
+
+returns : tie.Need-returns Inv-loop μ-loop
+unfolding loadValue
+returns c =
+    let a = c .before .before .before .before .args in
+    let h = c .before .before .before .before .pre in
+    let l = c .before .loop in
+    let vs = settings (a .slots) (a .line .now) in
+    let many : a .count + 1 ≡ length vs = omega (arith, length-settings (a .slots) (a .line .now)) in
+    let actives-are : l .actives ≡ map (active vs) (upto 16) = fill-all (active vs) (l .actives) 16 (l .k) (l .inv .1) (omega arith) (omega arith) (l .inv .3) in
+    let reactives-are : l .reactives ≡ map (reactive vs) (upto 16) = fill-all (reactive vs) (l .reactives) 16 (l .k) (l .inv .2) (omega arith) (omega arith) (l .inv .4) in
+    λ i. record { settings = many i; worths = c .before .before .worths-of .ensures i; actives = actives-are i; reactives = reactives-are i }
+
+pub load-of-spec : {M : Type 1} → statement M
+load-of-spec =
+    tie.close
+    (tie.spec
+    Inv-loop
+    μ-loop
+    worths-of-requires
+    loop-holds
+    power-of-requires
+    mul-actives
+    array-write-actives
+    mul-reactives
+    array-write-reactives
+    add-k
+    loop-less
+    loop-again
+    add-t15
+    returns)

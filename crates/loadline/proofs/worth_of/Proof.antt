@@ -1,0 +1,39 @@
+-- `loadline::worth_of` meets its contract: standing, past the last option, or an option. Assumes nothing.
+use mathlib.Core.Path.{_≡_, _∙_}
+use Prim.Native.Nat.{_-_}
+use Rattle.loadline.proofs.LineLaws.{setting-option, setting-past, option-next, holds-option}
+use native.Mathlib.Omega.{arith}
+use borrow.Author.Needs.{needs}
+use Rattle.loadline.proofs.worth_of.Statement.{statement}
+use Rattle.loadline.proofs.worth_of.Tie as tie
+
+returns : tie.Need-returns
+returns c =
+    let a = c .before .before .args in
+    let z : a .c ≡ 0 = omega arith in
+    rw z
+
+returns-2 : tie.Need-returns-2
+returns-2 c =
+    let a = c .before .before .before .args in
+    let h = c .before .before .before .pre in
+    rw (setting-past (a .slots) (a .c) (a .line .now) (omega arith))
+
+option-start-requires : tie.Need-option-start-requires
+option-start-requires c κs = search needs
+
+number-requires : tie.Need-number-requires
+number-requires c κs =
+    let a = c .before .before .before .before .args in
+    let r = holds-option (a .slots) (a .c - 1) (a .count) (a .line .now) (c .before .before .before .before .pre) (omega arith) in
+    omega (arith, option-next (a .slots) (a .c - 1))
+
+returns-3 : tie.Need-returns-3
+returns-3 c =
+    let a = c .before .before .before .before .before .args in
+    let h = c .before .before .before .before .before .pre in
+    c .number .ensures ∙ rw (c .before .option-start .ensures, setting-option (a .slots) (a .c) (a .line .now) (omega arith) (omega arith))
+
+pub worth-of-spec : {M : Type 1} → statement M
+worth-of-spec =
+    tie.close (tie.spec returns returns-2 option-start-requires number-requires returns-3)

@@ -1,0 +1,2 @@
+-- What a load line is.
+pub mod LoadLine

@@ -1,0 +1,26 @@
+-- What the functions of a load line ask of it, and the value that holds a power.
+use Prim.Native.Nat.{ℕ, _+_, _≤_, _<_}
+use mathlib.Core.Path.{_≡_}
+use mathlib.Core.List.{List}
+use lib.ListN.{length}
+use Rattle.model.specs.Book.{Power, optionCount, optionStart}
+use Rattle.model.specs.Values.{raised}
+use Rattle.model.specs.Bounds.{mostSlots, mostOptions}
+use Rattle.loadline.specs.declared.PowerValue.{PowerValue}
+
+-- the value that holds a power
+abbrev pub powerValue : Power → PowerValue
+powerValue x = record { active = x .p; reactive = raised (x .q) }
+
+-- a load line of t slots and o options
+pub record LoadLine (t o : ℕ) (line : List ℕ) : Type 0 where
+  pub slots : t ≤ mostSlots
+  pub options : o ≤ mostOptions
+  pub stated : o ≡ optionCount line
+  pub long : length line ≡ optionStart t o
+
+-- the line reaches to the end of option j + 1
+pub record HoldsOption (t j : ℕ) (line : List ℕ) : Type 0 where
+  pub slots : t ≤ mostSlots
+  pub option : j < mostOptions
+  pub reach : optionStart t (j + 1) ≤ length line

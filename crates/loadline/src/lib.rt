@@ -1,0 +1,164 @@
+// A load line of a book: refusals 2 to 5 and 7, and its load.
+use model::Book;
+use model::Finding;
+use model::Load;
+use model::Refusal;
+ghost use mathlib.Core.Path.{_≡_};
+ghost use mathlib.Core.List.{map};
+ghost use Prim.Native.Nat.{_+_, _*_, _≤_, _<_};
+ghost use lib.ListN.{length};
+ghost use Rattle.model.specs.Lists.{upto};
+ghost use Rattle.model.specs.Refusals.{first};
+ghost use Rattle.model.specs.Book.{optionStart, powerAt, options, settings, reactiveExceeds, someExceeds, loadRules};
+ghost use Rattle.model.specs.Values.{settingOf, powerOf, loadValue};
+ghost use Rattle.model.specs.Bounds.{mostSlots, mostOptions, mostSettings};
+ghost use Rattle.loadline.specs.LoadLine.{LoadLine, HoldsOption, powerValue};
+
+// An active power, and a reactive power plus 32,768.
+pub struct PowerValue {
+    pub active: u64,
+    pub reactive: u64,
+}
+
+// Where option j + 1 of a load line starts.
+fn option_start(slots: usize, j: usize) -> usize
+    requires { ⌜ (slots ≤ mostSlots) × (j ≤ mostOptions) ⌝ }
+    ensures { λ r. ⌜ r ≡ optionStart slots j ⌝ }
+{
+    4 + j * (4 + 8 * slots)
+}
+
+// The P and Q that start at a place.
+fn power_at(line: &[u8], at: usize) -> PowerValue
+    requires { ⌜ at + 8 ≤ length (now line) ⌝ }
+    ensures { λ r. ⌜ r ≡ powerValue (powerAt (now (line .entry)) at) ⌝ }
+{
+    PowerValue {
+        active: hex::number(line, at, 4),
+        reactive: (hex::number(line, at + 4, 4) + 32768) % 65536,
+    }
+}
+
+// |Q| > P in option j + 1 and slot s.
+fn exceeds_at(line: &[u8], slots: usize, j: usize, s: usize) -> bool
+    requires { ⌜ HoldsOption slots j (now line) ⌝ }
+    requires { ⌜ s < slots ⌝ }
+    ensures { λ r. ⌜ r ≡ reactiveExceeds (powerAt (now (line .entry)) (optionStart slots j + 4 + 8 * s)) ⌝ }
+{
+    let at = option_start(slots, j);
+    let power = power_at(line, at + 4 + 8 * s);
+    power.active < model::distance(power.reactive, 32768)
+}
+
+// |Q| > P in some option and slot.
+fn some_exceeds(line: &[u8], slots: usize, count: usize) -> bool
+    requires { ⌜ LoadLine slots count (now line) ⌝ }
+    ensures { λ r. ⌜ r ≡ someExceeds (options slots (now (line .entry))) ⌝ }
+{
+    let mut found = false;
+    'options: for j in 0..count {
+        for s in 0..slots {
+            if exceeds_at(line, slots, j, s) {
+                found = true;
+                break 'options;
+            }
+        }
+    }
+    found
+}
+
+// Refusals 2 to 5 and 7, in this order, of a load line.
+pub fn load_finding(line: &[u8], slots: usize) -> Finding
+    requires { ⌜ slots ≤ mostSlots ⌝ }
+    ensures { λ r. ⌜ r ≡ first (loadRules slots (now (line .entry))) ⌝ }
+{
+    if !hex::all_digits(line) {
+        return Finding::Refused(Refusal::NotHex);
+    }
+    if hex::wrong_kind(line, 2) {
+        return Finding::Refused(Refusal::WrongKind);
+    }
+    let count = hex::number(line, 2, 2);
+    if hex::outside(count, 1, Book::OPTIONS as u64) {
+        return Finding::Refused(Refusal::SlotsOrOptionsOutOfRange);
+    }
+    let due = option_start(slots, count as usize);
+    if line.len() != due {
+        return Finding::Refused(Refusal::WrongLength);
+    }
+    if some_exceeds(line, slots, count as usize) {
+        return Finding::Refused(Refusal::ReactiveExceedsActive);
+    }
+    Finding::Passed
+}
+
+// The worth of setting c; 0 for standing and past the last option.
+fn worth_of(line: &[u8], slots: usize, count: usize, c: usize) -> u64
+    requires { ⌜ LoadLine slots count (now line) ⌝ }
+    ensures { λ r. ⌜ r ≡ settingOf (settings slots (now (line .entry))) c .worth ⌝ }
+{
+    if c < 1 {
+        return 0;
+    }
+    if count < c {
+        return 0;
+    }
+    let at = option_start(slots, c - 1);
+    hex::number(line, at, 4)
+}
+
+// The power at place k of a load's arrays: of setting k / 4 in slot k % 4; none for standing and past the last option and slot.
+fn power_of(line: &[u8], slots: usize, count: usize, k: usize) -> PowerValue
+    requires { ⌜ LoadLine slots count (now line) ⌝ }
+    ensures { λ r. ⌜ r ≡ powerValue (powerOf (settings slots (now (line .entry))) k) ⌝ }
+{
+    let none = PowerValue {
+        active: 0,
+        reactive: 32768,
+    };
+    let c = k / Book::SLOTS;
+    let s = k % Book::SLOTS;
+    if c < 1 {
+        return none;
+    }
+    if count < c {
+        return none;
+    }
+    if slots <= s {
+        return none;
+    }
+    let at = option_start(slots, c - 1);
+    power_at(line, at + 4 + 8 * s)
+}
+
+fn worths_of(line: &[u8], slots: usize, count: usize) -> [u64; Load::SETTINGS]
+    requires { ⌜ LoadLine slots count (now line) ⌝ }
+    ensures { λ r. ⌜ r ≡ map (λ c. settingOf (settings slots (now (line .entry))) c .worth) (upto mostSettings) ⌝ }
+{
+    let mut worths = [0u64; Load::SETTINGS];
+    for c in 0..Load::SETTINGS {
+        worths[c] = worth_of(line, slots, count, c);
+    }
+    worths
+}
+
+// The load of a load line that is not refused.
+pub fn load_of(line: &[u8], slots: usize, count: usize) -> Load
+    requires { ⌜ LoadLine slots count (now line) ⌝ }
+    ensures { λ r. ⌜ r ≡ loadValue (settings slots (now (line .entry))) ⌝ }
+{
+    let worths = worths_of(line, slots, count);
+    let mut actives = [0u64; Load::POWERS];
+    let mut reactives = [0u64; Load::POWERS];
+    for k in 0..Load::POWERS {
+        let power = power_of(line, slots, count, k);
+        actives[k] = power.active;
+        reactives[k] = power.reactive;
+    }
+    Load {
+        settings: count + 1,
+        worths,
+        actives,
+        reactives,
+    }
+}
