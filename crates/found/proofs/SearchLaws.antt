@@ -24,7 +24,8 @@ use Rattle.pass.specs.declared.Grid.{Grid}
 use Rattle.search.specs.Search.{TopsAre, SlotsIn, Modelled, Places, Searched, trialsOf}
 use Rattle.layout.specs.declared.Layout.{Layout}
 use Rattle.layout.specs.Layout.{LayoutIs}
-use Rattle.scan.specs.Scan.{SlotSmall, SlotsHeld, bestOfLayer}
+use Rattle.admits.specs.Admits.{SlotSmall, SlotsHeld}
+use Rattle.scan.specs.Scan.{bestOfLayer}
 use Rattle.scan.proofs.ScanLaws.{slots-held, scan-finds, slots-small}
 use Rattle.found.specs.Found.{Found}
 

@@ -1,4 +1,3 @@
 -- Laws about the definitions of specs/, by subject.
-pub mod SlotLaws
 pub mod BestLaws
 pub mod ScanLaws

@@ -29,7 +29,8 @@ use Rattle.pass.proofs.SourceLaws.{row-end}
 use Rattle.pass.proofs.LayerLaws.{join-same}
 use Rattle.search.specs.Search.{SlotsIn, Modelled, LayerIs}
 use Rattle.search.proofs.ModelLaws.{area}
-use Rattle.scan.specs.Scan.{SlotSmall, SlotsHeld, admittedIn, bestOfLayer}
+use Rattle.admits.specs.Admits.{SlotSmall, SlotsHeld}
+use Rattle.scan.specs.Scan.{admittedIn, bestOfLayer}
 
 -- ---- the layer row by row
 

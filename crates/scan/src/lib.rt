@@ -5,79 +5,14 @@ use table::Cell;
 ghost use mathlib.Core.Path.{_≡_};
 ghost use mathlib.Core.Bool.{cond};
 ghost use mathlib.Core.Option.{none};
-ghost use Prim.Native.Nat.{ℕ, _+_, _-_, _*_, _<_, _≤_};
-ghost use lib.Dec.{leb};
-ghost use lib.IntN.{subℕ};
+ghost use Prim.Native.Nat.{ℕ, _+_, _*_, _<_, _≤_};
 ghost use lib.ListN.{length};
-ghost use Rattle.model.specs.Choice.{square};
-ghost use Rattle.model.specs.Grid.{leastAbs};
 ghost use Rattle.model.specs.Cells.{join, joinUpto, admitsAll};
 ghost use Rattle.model.specs.Index.{gridFrom};
 ghost use Rattle.table.specs.Table.{cellAt, keyOf};
 ghost use Rattle.pass.specs.Pass.{GridFits, StretchesFit};
-ghost use Rattle.scan.specs.Scan.{PairFits, SlotsHeld, Better, admittedIn, bestOfLayer};
-
-// The least |q| of bL ≤ q ≤ bL + e, where `raised` is b + zero, `step` is L and `spread` is e.
-fn nearest(raised: u64, zero: u64, step: u64, spread: u64) -> u64
-    requires { ⌜ (raised + zero) * step ≤ 3342285 ⌝ }
-    ensures { λ r. ⌜ (r ≡ leastAbs step spread (subℕ raised zero)) × (r ≤ 3342285) ⌝ }
-{
-    if zero <= raised {
-        return (raised - zero) * step;
-    }
-    let size = (zero - raised) * step;
-    if size < spread {
-        return 0;
-    }
-    size - spread
-}
-
-// Whether a slot is admitted at the grid pair (a, b), where `raised` is b + R + N, `top` is R and `count` is N.
-fn admits_pair(a: u64, raised: u64, step: u64, top: u64, count: u64, limit: u64) -> bool
-    requires { ⌜ PairFits a raised step top count limit ⌝ }
-    ensures { λ r. ⌜ r ≡ leb (square (a * step) + square (leastAbs step (count * (step - 1)) (subℕ raised (top + count)))) (square limit) ⌝ }
-{
-    let p = a * step;
-    let q = nearest(raised, top + count, step, count * (step - 1));
-    p * p + q * q <= limit * limit
-}
-
-// Whether every slot is admitted at the cell of a row and a column.
-fn admits_cell(
-    row: usize,
-    col: usize,
-    slots: usize,
-    count: u64,
-    steps: [u64; Book::SLOTS],
-    tops: [usize; Book::SLOTS],
-    widths: [usize; Book::SLOTS],
-    limits: [u64; Book::SLOTS],
-) -> bool
-    requires { ⌜ SlotsHeld slots count steps tops widths limits ⌝ }
-    ensures { λ r. ⌜ ((h : SlotsHeld slots count steps tops widths limits) → r ≡ admitsAll (h .ss) (gridFrom 1 (h .ss) row col)) ⌝ }
-{
-    let mut a = row;
-    let mut b = col;
-    let mut t: usize = 0;
-    while t < slots {
-        let top = tops[t];
-        let width = widths[t];
-        if !admits_pair(
-            (a % top) as u64,
-            (b % width) as u64,
-            steps[t],
-            (top - 1) as u64,
-            count,
-            limits[t],
-        ) {
-            return false;
-        }
-        a = a / top;
-        b = b / width;
-        t += 1;
-    }
-    true
-}
+ghost use Rattle.admits.specs.Admits.{SlotsHeld};
+ghost use Rattle.scan.specs.Scan.{Better, admittedIn, bestOfLayer};
 
 // Whether a cell is better than the best so far: greater worth, then smaller code. An empty cell is not.
 fn beats(c: Cell, best: Cell) -> bool
@@ -115,7 +50,7 @@ fn better_at(
     if !beats(c, best) {
         return best;
     }
-    if admits_cell(row, col, slots, count, steps, tops, widths, limits) {
+    if admits::admits_cell(row, col, slots, count, steps, tops, widths, limits) {
         return c;
     }
     best

@@ -1,4 +1,3 @@
 -- Laws of the sums, for the functions' proofs and for the crates that call them.
 pub mod SumsLaws
 pub mod PickLaws
-pub mod KeepLaws

@@ -5,7 +5,7 @@ use native.Mathlib.Omega.{arith}
 use borrow.Author.Needs.{needs}
 use lib.ListN.{getD, length}
 use Rattle.table.specs.Table.{keyOf}
-use Rattle.scan.specs.Scan.{SlotsHeld}
+use Rattle.admits.specs.Admits.{SlotsHeld}
 use Rattle.scan.proofs.ScanLaws.{bestOfRows, rows-none, rows-more, rows-all, row-room}
 use Rattle.scan.proofs.scan.Statement.{statement}
 use Rattle.scan.proofs.scan.Tie as tie

@@ -7,7 +7,8 @@ use native.Mathlib.Omega.{arith}
 use borrow.Author.Needs.{needs}
 use Rattle.model.specs.Cells.{join, joinUpto}
 use Rattle.table.specs.Table.{keyOf}
-use Rattle.scan.specs.Scan.{SlotsHeld, admittedIn}
+use Rattle.admits.specs.Admits.{SlotsHeld}
+use Rattle.scan.specs.Scan.{admittedIn}
 use Rattle.scan.proofs.BestLaws.{row-start, row-next, row-less, row-past}
 use Rattle.scan.proofs.scan_row.Statement.{statement}
 use Rattle.scan.proofs.scan_row.Tie as tie

@@ -1,4 +1,4 @@
--- `scan::admits_pair` meets its contract: the squares of p and of the q nearest to 0. Assumes nothing.
+-- `admits::admits_pair` meets its contract: the squares of p and of the q nearest to 0. Assumes nothing.
 use mathlib.Core.Path.{ap}
 use Prim.Native.Nat.{_+_, _*_}
 use native.Mathlib.Omega.{arith}
@@ -6,9 +6,9 @@ use borrow.Author.Needs.{needs}
 use lib.Dec.{leb}
 use Rattle.model.specs.Choice.{square}
 use Rattle.model.proofs.Squares.{sq-mono}
-use Rattle.scan.proofs.SlotLaws.{raised-small, spread-small}
-use Rattle.scan.proofs.admits_pair.Statement.{statement}
-use Rattle.scan.proofs.admits_pair.Tie as tie
+use Rattle.admits.proofs.SlotLaws.{raised-small, spread-small}
+use Rattle.admits.proofs.admits_pair.Statement.{statement}
+use Rattle.admits.proofs.admits_pair.Tie as tie
 
 mul-p : tie.Need-mul-p
 mul-p c = search needs

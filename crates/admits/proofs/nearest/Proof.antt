@@ -1,9 +1,9 @@
--- `scan::nearest` meets its contract: below zero the spread is taken off, but not past 0. Assumes nothing.
+-- `admits::nearest` meets its contract: below zero the spread is taken off, but not past 0. Assumes nothing.
 use native.Mathlib.Omega.{arith}
 use borrow.Author.Needs.{needs}
-use Rattle.scan.proofs.SlotLaws.{nearest-above, nearest-below, nearest-zero, size-above, size-below}
-use Rattle.scan.proofs.nearest.Statement.{statement}
-use Rattle.scan.proofs.nearest.Tie as tie
+use Rattle.admits.proofs.SlotLaws.{nearest-above, nearest-below, nearest-zero, size-above, size-below}
+use Rattle.admits.proofs.nearest.Statement.{statement}
+use Rattle.admits.proofs.nearest.Tie as tie
 
 mul-result : tie.Need-mul-result
 mul-result c = let a = c .before .args in omega (arith, size-above (a .raised) (a .zero) (a .step) (a .spread) (c .before .pre))

@@ -1,4 +1,4 @@
--- `sums::fits` meets its contract. Assumes nothing.
+-- `limits::fits` meets its contract. Assumes nothing.
 use mathlib.Core.Path.{ap}
 use Prim.Native.Nat.{_+_, _≤_}
 use lib.Dec.{leb}
@@ -6,8 +6,8 @@ use Rattle.model.specs.Choice.{square}
 use Rattle.model.proofs.Squares.{sq-mono}
 use native.Mathlib.Omega.{arith}
 use borrow.Author.Needs.{needs}
-use Rattle.sums.proofs.fits.Statement.{statement}
-use Rattle.sums.proofs.fits.Tie as tie
+use Rattle.limits.proofs.fits.Statement.{statement}
+use Rattle.limits.proofs.fits.Tie as tie
 
 distance-requires : tie.Need-distance-requires
 distance-requires c κs = search needs

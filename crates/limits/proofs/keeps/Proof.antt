@@ -1,4 +1,4 @@
--- `sums::keeps` meets its contract. The invariant: the slots that are left decide. Assumes nothing.
+-- `limits::keeps` meets its contract. The invariant: the slots that are left decide. Assumes nothing.
 use mathlib.Core.Path.{_≡_, _∙_}
 use Prim.Native.Nat.{_-_, _≤_}
 use lib.ListN.{length}
@@ -8,13 +8,13 @@ use Rattle.model.specs.Choice.{Choice}
 use Rattle.model.specs.Grid.{slotsOf, keepsLimits}
 use Rattle.model.specs.Valid.{SettingSmall}
 use Rattle.model.specs.Values.{problemOf}
 use Rattle.sums.specs.Sums.{sumsValue}
-use Rattle.sums.proofs.KeepLaws.{keepsFrom, keeps-all, keeps-go, keeps-stop, keeps-end, entry-kept}
+use Rattle.limits.proofs.KeepLaws.{keepsFrom, keeps-all, keeps-go, keeps-stop, keeps-end, entry-kept}
 use borrow.Author.Needs.{needs}
 use native.Mathlib.Omega.{arith}
 use Rattle.model.proofs.HeldLaws.{held-slots, held-few, held-four, held-limit-small}
-use Rattle.sums.proofs.keeps.Statement.{statement}
-use Rattle.sums.proofs.keeps.Tie as tie
+use Rattle.limits.proofs.keeps.Statement.{statement}
+use Rattle.limits.proofs.keeps.Tie as tie
 
 abbrev Inv-loop : tie.InvT-loop
 Inv-loop sums book zero s₀ s =

@@ -1,4 +1,4 @@
--- `scan::admits_cell` meets its contract. The invariant: what the slots from t on say of what is left of the row and the column is what all
+-- `admits::admits_cell` meets its contract. The invariant: what the slots from t on say of what is left of the row and the column is what all
 -- slots say of the cell. Assumes nothing.
 use mathlib.Core.Path.{_≡_, refl, _∙_, sym}
 use Prim.Native.Nat.{_-_, _≤_}
@@ -7,10 +7,10 @@ use borrow.Author.Needs.{needs}
 use borrow.Author.Tests.{not-true, not-false}
 use Rattle.model.specs.Index.{gridFrom}
 use Rattle.model.specs.Cells.{admitsAll}
-use Rattle.scan.specs.Scan.{SlotsHeld}
-use Rattle.scan.proofs.SlotLaws.{admitsFrom, top-some, width-some, pair-held, from-stop, from-go, from-end}
-use Rattle.scan.proofs.admits_cell.Statement.{statement}
-use Rattle.scan.proofs.admits_cell.Tie as tie
+use Rattle.admits.specs.Admits.{SlotsHeld}
+use Rattle.admits.proofs.SlotLaws.{admitsFrom, top-some, width-some, pair-held, from-stop, from-go, from-end}
+use Rattle.admits.proofs.admits_cell.Statement.{statement}
+use Rattle.admits.proofs.admits_cell.Tie as tie
 
 abbrev Inv-loop : tie.InvT-loop
 Inv-loop row col slots count steps tops widths limits a₀ b₀ t₀ a b t =

@@ -1,0 +1,2 @@
+-- What the slots of a cell are.
+pub mod Admits
