@@ -1,0 +1,2 @@
+-- What the sizes are.
+pub mod Sizes
