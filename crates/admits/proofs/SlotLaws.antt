@@ -20,7 +20,7 @@ use Rattle.model.specs.Cells.{admitsAll}
 use Rattle.model.specs.Bounds.{mostLoads}
 use Rattle.model.proofs.IntegerLaws.{sub-pos, sub-neg}
 use Rattle.model.proofs.ListLaws.{every-at}
-use Rattle.search.specs.Search.{SlotsIn}
+use Rattle.slots.specs.Slots.{SlotsIn}
 use Rattle.admits.specs.Admits.{PairFits, SlotSmall, SlotsHeld}
 
 -- ---- the q nearest to 0

@@ -7,7 +7,7 @@ use Rattle.model.specs.Lists.{Every}
 use Rattle.model.specs.Grid.{Slot}
 use Rattle.model.specs.Valid.{SlotsFor}
 use Rattle.model.specs.Bounds.{mostSlots, mostLoads}
-use Rattle.search.specs.Search.{SlotsIn}
+use Rattle.slots.specs.Slots.{SlotsIn}
 
 -- the numbers of one slot's test are small
 pub record PairFits (a raised step top count limit : ℕ) : Type 0 where

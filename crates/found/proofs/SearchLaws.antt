@@ -20,8 +20,9 @@ use Rattle.model.proofs.RecurrenceLaws.{key?}
 use Rattle.model.proofs.HeldLaws.{held-valid, held-count}
 use Rattle.table.specs.declared.Cell.{Cell}
 use Rattle.table.specs.Table.{keyOf, keyIf}
-use Rattle.pass.specs.declared.Grid.{Grid}
-use Rattle.search.specs.Search.{TopsAre, SlotsIn, Modelled, Places, Searched, trialsOf}
+use Rattle.stretch.specs.declared.Grid.{Grid}
+use Rattle.search.specs.Search.{TopsAre, Modelled, Places, Searched, trialsOf}
+use Rattle.slots.specs.Slots.{SlotsIn}
 use Rattle.layout.specs.declared.Layout.{Layout}
 use Rattle.layout.specs.Layout.{LayoutIs}
 use Rattle.admits.specs.Admits.{SlotSmall, SlotsHeld}

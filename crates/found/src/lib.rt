@@ -10,7 +10,7 @@ ghost use Rattle.model.specs.Choice.{decode};
 ghost use Rattle.model.specs.Grid.{slotsOf};
 ghost use Rattle.model.specs.Trials.{neededWords, WordsKept};
 ghost use Rattle.model.specs.Values.{Held, problemOf};
-ghost use Rattle.search.specs.Search.{SlotsIn};
+ghost use Rattle.slots.specs.Slots.{SlotsIn};
 ghost use Rattle.layout.specs.Layout.{LayoutIs};
 ghost use Rattle.found.specs.Found.{Found};
 

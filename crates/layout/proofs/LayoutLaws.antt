@@ -17,9 +17,11 @@ use Rattle.model.specs.Bounds.{mostCells}
 use Rattle.model.proofs.AdmissionLaws.{slots-for}
 use Rattle.model.proofs.IndexLaws.{cells-one}
 use Rattle.model.proofs.HeldLaws.{held-valid, held-count, held-slots, held-four}
-use Rattle.pass.specs.declared.Grid.{Grid}
-use Rattle.pass.specs.declared.LoadMoves.{LoadMoves}
-use Rattle.search.specs.Search.{movesOf, TopsAre, SlotsIn, LoadIs, Modelled}
+use Rattle.stretch.specs.declared.Grid.{Grid}
+use Rattle.stretch.specs.declared.LoadMoves.{LoadMoves}
+use Rattle.moves.specs.Moves.{movesOf, LoadIs}
+use Rattle.search.specs.Search.{TopsAre, Modelled}
+use Rattle.slots.specs.Slots.{SlotsIn}
 use Rattle.slots.specs.declared.Slots.{Slots}
 use Rattle.layout.specs.declared.Extent.{Extent}
 use Rattle.layout.specs.Layout.{Extended, LayoutIs}

@@ -1,16 +1,15 @@
 // From a book's value to what the search asks: the grid, and what each setting does.
 use model::Book;
-use pass::Grid;
-use pass::LoadMoves;
 use slots::Slots;
+use stretch::Grid;
+use stretch::LoadMoves;
 ghost use mathlib.Core.Path.{_≡_};
 ghost use Prim.Native.Nat.{_≤_};
 ghost use Rattle.model.specs.Bounds.{mostCells};
 ghost use Rattle.model.specs.Grid.{slotsOf};
 ghost use Rattle.model.specs.Trials.{cells};
 ghost use Rattle.model.specs.Values.{Held, problemOf};
-ghost use Rattle.search.specs.Search.{SlotsIn};
-ghost use Rattle.slots.specs.Slots.{Laid};
+ghost use Rattle.slots.specs.Slots.{SlotsIn, Laid};
 ghost use Rattle.layout.specs.Layout.{Extended, LayoutIs};
 
 // The rows of the table, the columns of a row, and the column of no power.

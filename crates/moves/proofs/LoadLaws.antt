@@ -18,10 +18,9 @@ use Rattle.model.specs.Bounds.{mostLoads}
 use Rattle.model.proofs.ListLaws.{every-at}
 use Rattle.model.proofs.ValueLaws.{numbered-at}
 use Rattle.model.proofs.HeldLaws.{held-valid, held-count, held-few, held-load}
-use Rattle.pass.specs.declared.SettingMove.{SettingMove}
-use Rattle.pass.specs.Pass.{noMove}
-use Rattle.search.specs.Search.{MoveIs, LoadIs}
-use Rattle.moves.specs.Moves.{LoadHeld}
+use Rattle.stretch.specs.declared.SettingMove.{SettingMove}
+use Rattle.stretch.specs.Stretch.{noMove}
+use Rattle.moves.specs.Moves.{MoveIs, LoadIs, LoadHeld}
 use Rattle.moves.proofs.MoveLaws.{load-count}
 
 -- all settings passed

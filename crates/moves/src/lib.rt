@@ -1,9 +1,9 @@
 // What each setting of a book does to a cell of the table.
 use model::Book;
 use model::Load;
-use pass::LoadMoves;
-use pass::SettingMove;
 use slots::Slots;
+use stretch::LoadMoves;
+use stretch::SettingMove;
 ghost use mathlib.Core.Path.{_≡_};
 ghost use mathlib.Core.List.{[]};
 ghost use Prim.Native.Nat.{ℕ, _^_, _<_, _≤_};
@@ -11,9 +11,8 @@ ghost use lib.ListN.{getD};
 ghost use Rattle.model.specs.Grid.{floorDiv};
 ghost use Rattle.model.specs.Values.{raised, lowered, settingOf, Held, problemOf};
 ghost use Rattle.model.specs.Rounding.{floorBySum};
-ghost use Rattle.search.specs.Search.{movesOf, MoveIs, LoadIs};
+ghost use Rattle.moves.specs.Moves.{movesOf, MoveIs, LoadIs, LoadHeld};
 ghost use Rattle.slots.specs.Slots.{Laid};
-ghost use Rattle.moves.specs.Moves.{LoadHeld};
 
 // The grid value of a reactive power, by arithmetic that asks for no sign: `power` is Q + 32,768, so that 32,768 × (L - 1) more make
 // Q + 32,768 × L, and the quotient is the grid value + 32,768. The 32,768 are taken off where the columns move (`down`).

@@ -18,14 +18,17 @@ use Rattle.model.specs.Bounds.{mostRows}
 use Rattle.model.proofs.CellLaws.{upto-none}
 use Rattle.table.specs.Table.{cellAt, keyOf, Rows, reached}
 use Rattle.model.proofs.IntegerLaws.{split}
-use Rattle.pass.specs.declared.SettingMove.{SettingMove}
-use Rattle.pass.specs.declared.Grid.{Grid}
-use Rattle.pass.specs.declared.LoadMoves.{LoadMoves}
-use Rattle.pass.specs.declared.Stretch.{Stretch}
+use Rattle.stretch.specs.declared.SettingMove.{SettingMove}
+use Rattle.stretch.specs.declared.Grid.{Grid}
+use Rattle.stretch.specs.declared.LoadMoves.{LoadMoves}
+use Rattle.stretch.specs.declared.Stretch.{Stretch}
 use Rattle.pass.specs.declared.Made.{Made}
-use Rattle.pass.specs.Pass.{heldIn, held, tried, sourceOf, moveOf, offerOf, raiseUpto, GridFits, LoadRoom, Offers, Spans, Opened, RowKeys, RowMade, EmptyFrom, Reaches, countRows, LayerMade, raisedRows}
-use Rattle.pass.proofs.KeyLaws.{shift-from, shift-below, raise-upto, upto-split, upto-same}
-use Rattle.pass.proofs.SourceLaws.{row-end, next-row, held-in, held-low, held-high, source-out, source-column, cond-bounded, Same, offer-same, room-same, rows-same}
+use Rattle.stretch.specs.Stretch.{tried, moveOf, GridFits, Offers, Spans, EmptyFrom, Reaches}
+use Rattle.rows.specs.Row.{heldIn, held, sourceOf, offerOf, raiseUpto, LoadRoom, Opened, RowKeys, raisedRows}
+use Rattle.pass.specs.Pass.{RowMade, countRows, LayerMade}
+use Rattle.rows.proofs.KeyLaws.{shift-from, shift-below, raise-upto, upto-split, upto-same}
+use Rattle.rows.proofs.OpenLaws.{span-ends, clear-room}
+use Rattle.rows.proofs.SourceLaws.{row-end, next-row, held-in, held-low, held-high, source-out, source-column, cond-bounded, Same, offer-same, room-same, rows-same}
 
 -- ---- counts
 
@@ -115,16 +118,13 @@ module _ {lows highs : List ℕ} (grid : Grid) (row : ℕ) (load : LoadMoves) (s
     count-fits = omega arith;
   }
 
-  pub span-ends : (row * grid .width + grid .width ≤ grid .cells) × (span .high ≤ grid .width)
-  span-ends = (omega (arith, row-end (grid .width) l, g .area), q .end .1)
+  ends : (row * grid .width + grid .width ≤ grid .cells) × (span .high ≤ grid .width)
+  ends = span-ends grid row load span g l q
 
   module _ {ws : List ℕ} {cur next : ℕ} (rows : Rows ws cur next (grid .cells)) (h : span .low < span .high) where
-    pub clear-room : 2 * (next + row * grid .width + span .low + (span .high - span .low)) ≤ length ws
-    clear-room = omega (arith, span-ends, rows .target)
-
     module _ {ws₁ : List ℕ} {first : ℕ} (f : Opened ws ws₁ lows highs grid cur next load row span first) where
       opened : Same ws ws₁ cur (grid .cells)
-      opened = record { same = λ x k. f .outside (cur + x) (λ col a b e. rows .never x (row * grid .width + col) k (omega (arith, span-ends)) (omega arith)) }
+      opened = record { same = λ x k. f .outside (cur + x) (λ col a b e. rows .never x (row * grid .width + col) k (omega (arith, ends)) (omega arith)) }
 
       pub opened-rows : Rows ws₁ cur next (grid .cells)
       opened-rows = rows-same (f .same-length) rows
@@ -134,7 +134,7 @@ module _ {lows highs : List ℕ} (grid : Grid) (row : ℕ) (load : LoadMoves) (s
 
       module _ {ws₂ : List ℕ} (r : RowKeys ws₁ ws₂ (next + row * grid .width) (grid .width) (raisedRows ws₁ lows highs grid cur next load row first (load .count - first))) where
         pub count-room : 2 * (next + row * grid .width + span .low + (span .high - span .low)) ≤ length ws₂
-        count-room = omega (arith, clear-room, f .same-length, r .same-length)
+        count-room = omega (arith, clear-room grid row load span g l q rows h, f .same-length, r .same-length)
 
         inside-span : LoadRoom ws lows highs grid cur load → (col : ℕ) → col < grid .width → span .low ≤ col → col < span .high
             → keyOf (cellAt ws₂ (next + row * grid .width + col)) ≡ joinUpto (load .count) (offerOf ws lows highs grid cur load row col)
@@ -163,12 +163,12 @@ module _ {lows highs : List ℕ} (grid : Grid) (row : ℕ) (load : LoadMoves) (s
               (λ (b : span .high ≤ col). held-high ws₂ at (span .low) (span .high) col b ∙ sym (beside-span ws cur col k (λ x y. omega arith)))
               (split col (span .high)))
               (split col (span .low));
-          outside = λ x o. r .outside x o ∙ f .outside x (λ col a b e. o col (omega (arith, span-ends)) e);
+          outside = λ x o. r .outside x o ∙ f .outside x (λ col a b e. o col (omega (arith, ends)) e);
           counted = λ t. counted t
               ∙ count-same (span .high - span .low) (reached ws₂ (at + span .low)) (λ j. isSome (heldIn ws₂ at (span .low) (span .high) (span .low + j))) same
               ∙ sym (count-part (span .low) (span .high) (grid .width) (λ col. isSome (heldIn ws₂ at (span .low) (span .high) col)) (omega arith) (q .end .1)
               (λ i k. ap isSome (held-low ws₂ at (span .low) (span .high) i k)) (λ i k. ap isSome (held-high ws₂ at (span .low) (span .high) i k)));
-          count-fits = omega (arith, span-ends);
+          count-fits = omega (arith, ends);
         }
           where
             at : ℕ

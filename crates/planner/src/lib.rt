@@ -15,7 +15,7 @@ ghost use Rattle.model.specs.Sheet.{sheetLength};
 ghost use Rattle.model.specs.Calls.{planSheet, plannerResult, fitting, freeFor, freeWords};
 ghost use Rattle.model.specs.Demand.{Demand3};
 ghost use Rattle.model.specs.Values.{Held, problemOf};
-ghost use Rattle.search.specs.Search.{SlotsIn};
+ghost use Rattle.slots.specs.Slots.{SlotsIn};
 ghost use Rattle.layout.specs.Layout.{LayoutIs};
 ghost use Rattle.planner.specs.Planner.{fittedPlan};
 

@@ -17,7 +17,7 @@ use Rattle.model.proofs.OrderLaws.{join-none, join-assoc, lt-of-not}
 use Rattle.model.proofs.CellLaws.{upto-none}
 use Rattle.table.specs.declared.Cell.{Cell}
 use Rattle.table.specs.Table.{cellAt, keyIf, keyOf}
-use Rattle.pass.proofs.SourceLaws.{held-in, held-low, held-high}
+use Rattle.rows.proofs.SourceLaws.{held-in, held-low, held-high}
 use Rattle.scan.specs.Scan.{Better, admittedIn}
 
 -- ---- the better of two cells

@@ -22,12 +22,14 @@ use Rattle.model.proofs.RecurrenceLaws.{key?}
 use Rattle.model.proofs.TableLaws.{plan-cells}
 use Rattle.table.specs.declared.Cell.{Cell}
 use Rattle.table.specs.Table.{keyOf}
-use Rattle.pass.specs.declared.Grid.{Grid}
-use Rattle.pass.specs.declared.LoadMoves.{LoadMoves}
-use Rattle.pass.specs.Pass.{held, GridFits}
-use Rattle.pass.proofs.SourceLaws.{row-end}
+use Rattle.stretch.specs.declared.Grid.{Grid}
+use Rattle.stretch.specs.declared.LoadMoves.{LoadMoves}
+use Rattle.stretch.specs.Stretch.{GridFits}
+use Rattle.rows.specs.Row.{held}
+use Rattle.rows.proofs.SourceLaws.{row-end}
 use Rattle.pass.proofs.LayerLaws.{join-same}
-use Rattle.search.specs.Search.{SlotsIn, Modelled, LayerIs}
+use Rattle.slots.specs.Slots.{SlotsIn}
+use Rattle.search.specs.Search.{Modelled, LayerIs}
 use Rattle.search.proofs.ModelLaws.{area}
 use Rattle.admits.specs.Admits.{SlotSmall, SlotsHeld}
 use Rattle.scan.specs.Scan.{admittedIn, bestOfLayer}

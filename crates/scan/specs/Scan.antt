@@ -9,8 +9,8 @@ use Rattle.model.specs.Cells.{Key, join, joinUpto, admitsAll}
 use Rattle.model.specs.Index.{gridFrom}
 use Rattle.table.specs.declared.Cell.{Cell}
 use Rattle.table.specs.Table.{keyOf}
-use Rattle.pass.specs.declared.Grid.{Grid}
-use Rattle.pass.specs.Pass.{heldIn, held}
+use Rattle.stretch.specs.declared.Grid.{Grid}
+use Rattle.rows.specs.Row.{heldIn, held}
 
 -- r tells whether the cell c is better than the best so far
 pub record Better (best c : Cell) (r : Bool) : Type 0 where

@@ -1,6 +1,6 @@
 // The last step of the planner: the best cell of the last layer that every slot admits.
 use model::Book;
-use pass::Grid;
+use stretch::Grid;
 use table::Cell;
 ghost use mathlib.Core.Path.{_≡_};
 ghost use mathlib.Core.Bool.{cond};
@@ -10,7 +10,7 @@ ghost use lib.ListN.{length};
 ghost use Rattle.model.specs.Cells.{join, joinUpto, admitsAll};
 ghost use Rattle.model.specs.Index.{gridFrom};
 ghost use Rattle.table.specs.Table.{cellAt, keyOf};
-ghost use Rattle.pass.specs.Pass.{GridFits, StretchesFit};
+ghost use Rattle.stretch.specs.Stretch.{GridFits, StretchesFit};
 ghost use Rattle.admits.specs.Admits.{SlotsHeld};
 ghost use Rattle.scan.specs.Scan.{Better, admittedIn, bestOfLayer};
 

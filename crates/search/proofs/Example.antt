@@ -10,11 +10,12 @@ use Rattle.model.specs.Book.{Power, Setting, Settings, standing}
 use Rattle.model.specs.Choice.{noSetting}
 use Rattle.model.specs.Grid.{Slot}
 use Rattle.model.specs.Valid.{SettingKept}
-use Rattle.pass.specs.declared.Grid.{Grid}
-use Rattle.pass.specs.declared.LoadMoves.{LoadMoves}
-use Rattle.pass.specs.declared.SettingMove.{SettingMove}
-use Rattle.pass.specs.Pass.{moveOf}
-use Rattle.search.specs.Search.{movesOf, MoveIs, LoadIs, Modelled}
+use Rattle.stretch.specs.declared.Grid.{Grid}
+use Rattle.stretch.specs.declared.LoadMoves.{LoadMoves}
+use Rattle.stretch.specs.declared.SettingMove.{SettingMove}
+use Rattle.stretch.specs.Stretch.{moveOf}
+use Rattle.moves.specs.Moves.{movesOf, MoveIs, LoadIs}
+use Rattle.search.specs.Search.{Modelled}
 
 abbrev slots : List Slot
 slots = record { place = 0; limit = 10; step = 1; loads = 1 } ∷ []

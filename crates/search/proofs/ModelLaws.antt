@@ -6,7 +6,7 @@ use mathlib.Core.Bool.{Bool, true, cond, _&&_}
 use mathlib.Core.Logic.{⊎-elim}
 use mathlib.Core.Option.{Option, none}
 use mathlib.Core.List.{List, [], _∷_}
-use native.Mathlib.Nat.{suc-mul, mul-le-mul, mul-le-mul-right, pow-succ', pow-le-pow-right}
+use native.Mathlib.Nat.{suc-mul, mul-le-mul-right, pow-succ', pow-le-pow-right}
 use native.Mathlib.Numerals.{add-one}
 use native.Mathlib.Omega.{arith}
 use lib.Dec.{T, leb, ltb}
@@ -15,10 +15,9 @@ use lib.Seq.{length-take-le}
 use Rattle.model.specs.Lists.{Every}
 use Rattle.model.specs.Book.{Setting, Settings}
 use Rattle.model.specs.Grid.{Slot}
-use Rattle.model.specs.Trials.{gridTop}
 use Rattle.model.specs.Choice.{noSetting}
 use Rattle.model.specs.Cells.{Key, shift?, settingGrids, joinUpto, isSome, countUpto, cellBest, Bounded}
-use Rattle.model.specs.Index.{rowCount, cellCount, columnUp, columnDown}
+use Rattle.model.specs.Index.{cellCount, columnUp, columnDown}
 use Rattle.model.specs.Valid.{SettingBelow}
 use Rattle.model.specs.Bounds.{mostLoads}
 use borrow.Author.Tests.{le-leb, lt-leb}
@@ -27,13 +26,17 @@ use Rattle.model.proofs.ListLaws.{every-at, every-take}
 use Rattle.model.proofs.RecurrenceLaws.{step}
 use Rattle.model.proofs.IndexLaws.{cells-area}
 use Rattle.model.proofs.RowLaws.{coversAll, covers-le, sourceTest, sourceCell, rows-step, over-upto, cell-bounded, rows-few}
-use Rattle.pass.specs.declared.Grid.{Grid}
-use Rattle.pass.specs.declared.LoadMoves.{LoadMoves}
-use Rattle.pass.specs.declared.SettingMove.{SettingMove}
-use Rattle.pass.specs.Pass.{held, coversFrom, tried, sourceOf, moveOf, offerOf, GridFits, MoveFits, LoadFits, LoadRoom, countRows, LayerMade}
-use Rattle.pass.proofs.SourceLaws.{source-column, cond-same}
+use Rattle.stretch.specs.declared.Grid.{Grid}
+use Rattle.stretch.specs.declared.LoadMoves.{LoadMoves}
+use Rattle.stretch.specs.declared.SettingMove.{SettingMove}
+use Rattle.stretch.specs.Stretch.{coversFrom, tried, moveOf, GridFits, MoveFits, LoadFits}
+use Rattle.rows.specs.Row.{held, sourceOf, offerOf, LoadRoom}
+use Rattle.pass.specs.Pass.{countRows, LayerMade}
+use Rattle.rows.proofs.SourceLaws.{source-column, cond-same}
 use Rattle.pass.proofs.LayerLaws.{count-same, count-add, join-same}
-use Rattle.search.specs.Search.{movesOf, TopsAre, ActivesAre, MoveIs, LoadIs, Modelled, LayerIs}
+use Rattle.slots.proofs.ExtentLaws.{rows-some}
+use Rattle.moves.specs.Moves.{movesOf, ActivesAre, MoveIs, LoadIs}
+use Rattle.search.specs.Search.{TopsAre, Modelled, LayerIs}
 
 -- ---- the geometry
 
@@ -41,10 +44,6 @@ tops-some : (tops : List ℕ) (t : ℕ) (slots : List Slot) → TopsAre tops t s
 tops-some tops t [] a i l = absurd (omega arith)
 tops-some tops t (s ∷ slots) a zero l = let e : t + 0 ≡ t = omega arith in rw e (omega (arith, a .0))
 tops-some tops t (s ∷ slots) a (suc i) l = let e : t + suc i ≡ t + 1 + i = omega arith in rw e (tops-some tops (t + 1) slots (a .1) i (omega arith))
-
-pub rows-some : (slots : List Slot) → 1 ≤ rowCount slots
-rows-some [] = omega arith
-rows-some (s ∷ slots) = let h : 1 ≤ gridTop s + 1 = omega arith in mul-le-mul (rows-some slots) h
 
 covers-is : (tops active : List ℕ) (slots : List Slot) (v : Setting) (t row : ℕ) → TopsAre tops t slots → ActivesAre active t slots v
     → coversFrom tops active t (length slots) row ≡ coversAll slots (settingGrids slots v) row

@@ -26,12 +26,15 @@ use Rattle.model.proofs.TableLaws.{range-grids, within-all, reached-cells}
 use Rattle.model.proofs.LoopLaws.{range-none, cells-none, ready-take, trials-step}
 use Rattle.table.specs.Table.{cellAt, putAt, keyOf, Rows}
 use Rattle.table.proofs.WordLaws.{get-same, get-other, length-put}
-use Rattle.pass.specs.declared.Grid.{Grid}
-use Rattle.pass.specs.declared.LoadMoves.{LoadMoves}
-use Rattle.pass.specs.Pass.{held, StretchesFit, LoadRoom, EmptyFrom, countRows, LayerMade}
-use Rattle.pass.proofs.SourceLaws.{held-in, held-low, held-high}
+use Rattle.stretch.specs.declared.Grid.{Grid}
+use Rattle.stretch.specs.declared.LoadMoves.{LoadMoves}
+use Rattle.stretch.specs.Stretch.{StretchesFit, EmptyFrom}
+use Rattle.rows.specs.Row.{held, LoadRoom}
+use Rattle.pass.specs.Pass.{countRows, LayerMade}
+use Rattle.rows.proofs.SourceLaws.{held-in, held-low, held-high}
 use Rattle.pass.proofs.LayerLaws.{rows-count-le}
-use Rattle.search.specs.Search.{firstCell, movesOf, Modelled, LayerIs, Places, trialsOf, Run, Searched}
+use Rattle.search.specs.Search.{firstCell, Modelled, LayerIs, Places, trialsOf, Run, Searched}
+use Rattle.moves.specs.Moves.{movesOf}
 use Rattle.search.proofs.ModelLaws.{width-in, grid-fits, load-fits, load-room, layer-next, layer-count}
 
 pub tries-small : {reached count : ℕ} → reached ≤ mostCells → count ≤ 4 → reached * count ≤ 4194304

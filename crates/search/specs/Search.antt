@@ -1,31 +1,24 @@
 -- The passes of all loads: of which slots and loads the numbers of the code speak, and what the layers and the trials then are.
-use Prim.Native.Nat.{ℕ, suc, _+_, _*_, _^_, _<_, _≤_}
+use Prim.Native.Nat.{ℕ, suc, _+_, _*_, _<_, _≤_}
 use mathlib.Core.Path.{_≡_}
 use mathlib.Core.Logic.{_⊎_}
 use mathlib.Core.List.{List, [], _∷_}
 use lib.ListN.{length, getD, take}
 use Rattle.model.specs.Lists.{Every}
-use Rattle.model.specs.Bounds.{mostSlots, mostLoads, mostSettings, mostCells, mostRows}
-use Rattle.model.specs.Book.{Setting, Settings}
-use Rattle.model.specs.Choice.{noSetting}
+use Rattle.model.specs.Bounds.{mostSlots, mostLoads, mostCells, mostRows}
+use Rattle.model.specs.Book.{Settings}
 use Rattle.model.specs.Grid.{Slot, gridsOf}
 use Rattle.model.specs.Trials.{gridTop, trialsUpto}
 use Rattle.model.specs.Valid.{Ready, SettingBelow}
-use Rattle.model.specs.Index.{widthOf, rowIndex, columnIndex, rowCount, columnCount, cellCount, columnUp, columnDown}
-use Rattle.model.specs.Cells.{settingGrid, settingGrids, cellBest}
+use Rattle.model.specs.Index.{columnIndex, rowCount, columnCount, cellCount}
+use Rattle.model.specs.Cells.{cellBest}
 use Rattle.table.specs.declared.Cell.{Cell}
 use Rattle.table.specs.Table.{cellAt}
-use Rattle.pass.specs.declared.Grid.{Grid}
-use Rattle.pass.specs.declared.LoadMoves.{LoadMoves}
-use Rattle.pass.specs.declared.SettingMove.{SettingMove}
-use Rattle.pass.specs.Pass.{held, moveOf, countRows}
-
-abbrev pub noMoves : LoadMoves
-noMoves = record { count = 0; moves = [] }
-
--- what the settings of load k + 1 do
-abbrev pub movesOf : List LoadMoves → ℕ → LoadMoves
-movesOf moves k = getD moves k noMoves
+use Rattle.stretch.specs.declared.Grid.{Grid}
+use Rattle.stretch.specs.declared.LoadMoves.{LoadMoves}
+use Rattle.rows.specs.Row.{held}
+use Rattle.pass.specs.Pass.{countRows}
+use Rattle.moves.specs.Moves.{movesOf, LoadIs}
 
 -- ---- the numbers of the code
 
@@ -33,18 +26,6 @@ movesOf moves k = getD moves k noMoves
 abbrev pub TopsAre : List ℕ → ℕ → List Slot → Type 0
 TopsAre tops t [] = Unit {0}
 TopsAre tops t (s ∷ slots) = (getD tops t 0 ≡ gridTop s + 1) × TopsAre tops (t + 1) slots
-
--- from place t on, the grid values of a setting's P
-abbrev pub ActivesAre : List ℕ → ℕ → List Slot → Setting → Type 0
-ActivesAre active t [] v = Unit {0}
-ActivesAre active t (s ∷ slots) v = (getD active t 0 ≡ settingGrid s v .p) × ActivesAre active (t + 1) slots v
-
--- from place t on, the steps, the numbers of active and of reactive values, and the limits of the slots
-abbrev pub SlotsIn : ℕ → List ℕ → List ℕ → List ℕ → List ℕ → ℕ → List Slot → Type 0
-SlotsIn r steps tops widths limits t [] = Unit {0}
-SlotsIn r steps tops widths limits t (s ∷ slots) =
-    ((getD steps t 0 ≡ s .step) × (getD tops t 0 ≡ gridTop s + 1) × (getD widths t 0 ≡ widthOf (suc r) s) × (getD limits t 0 ≡ s .limit))
-    × SlotsIn r steps tops widths limits (t + 1) slots
 
 -- the grid is that of the slots, at ratio r + 1
 pub record GridIs (r : ℕ) (slots : List Slot) (grid : Grid) : Type 0 where
@@ -55,24 +36,6 @@ pub record GridIs (r : ℕ) (slots : List Slot) (grid : Grid) : Type 0 where
   pub width-is : grid .width ≡ columnCount (suc r) slots
   pub cells-are : grid .cells ≡ cellCount (suc r) slots
   pub cells-fit : grid .cells ≤ mostCells
-
--- `mv` is what the setting v of load k + 1 does
-pub record MoveIs (r : ℕ) (slots : List Slot) (k : ℕ) (v : Setting) (mv : SettingMove) : Type 0 where
-  pub gain-is : mv .gain ≡ v .worth
-  pub digit-is : mv .digit ≡ v .number * 4 ^ k
-  pub back-is : mv .back ≡ rowIndex slots (settingGrids slots v)
-  -- only the difference of the two counts, so that both may be raised alike
-  pub shift-is : mv .up + columnDown (suc r) slots (settingGrids slots v) ≡ mv .down + columnUp (suc r) slots (settingGrids slots v)
-  pub actives-are : ActivesAre (mv .active) 0 slots v
-  pub up-fits : mv .up ≤ 1099511627776
-  pub down-fits : mv .down ≤ 1099511627776
-
--- `load` is what the settings of load k + 1 do, by ascending number
-pub record LoadIs (r : ℕ) (slots : List Slot) (k : ℕ) (vs : Settings) (load : LoadMoves) : Type 0 where
-  pub count-is : load .count ≡ length vs
-  pub count-fits : length vs ≤ mostSettings
-  pub ascending : (m n : ℕ) → m < n → n < length vs → getD vs m noSetting .number < getD vs n noSetting .number
-  pub each : (n : ℕ) → n < length vs → MoveIs r slots k (getD vs n noSetting) (moveOf load n)
 
 -- the slots and loads of the definitions of which the numbers of the code speak: n loads, at ratio r + 1; `origin` is the column of no power
 pub record Modelled (grid : Grid) (origin n : ℕ) (moves : List LoadMoves) : Type 0 where

@@ -1,14 +1,14 @@
 // The search: the passes of all loads, the layers changing places after each, and the trials counted on the way.
 use model::Book;
-use pass::Grid;
-use pass::LoadMoves;
+use stretch::Grid;
+use stretch::LoadMoves;
 use table::Cell;
 ghost use mathlib.Core.Path.{_≡_};
 ghost use Prim.Native.Nat.{_+_, _*_, _<_, _≤_};
 ghost use lib.ListN.{length, drop};
 ghost use Rattle.model.specs.Bounds.{mostSettings, mostCells};
 ghost use Rattle.table.specs.Table.{putAt};
-ghost use Rattle.pass.specs.Pass.{EmptyFrom};
+ghost use Rattle.stretch.specs.Stretch.{EmptyFrom};
 ghost use Rattle.search.specs.Search.{firstCell, Modelled, Places, Run, Searched};
 
 // The first layer: one choice, of no load, at the cell `origin` of row 0.
@@ -75,7 +75,7 @@ fn run_loads(
                 highs,
             };
         }
-        let rows = pass::reach_of(grid, load, used);
+        let rows = stretch::reach_of(grid, load, used);
         reached = pass::load_pass(
             work,
             grid,

@@ -12,8 +12,11 @@ use Rattle.model.specs.Grid.{Slot, gridsOf}
 use Rattle.model.specs.Trials.{gridTop}
 use Rattle.model.specs.Index.{widthOf, rowCount, columnCount, columnIndex, cellCount}
 use Rattle.model.proofs.IndexLaws.{cells-area}
-use Rattle.search.proofs.ModelLaws.{rows-some}
 use Rattle.slots.specs.Slots.{noSlot}
+
+pub rows-some : (slots : List Slot) → 1 ≤ rowCount slots
+rows-some [] = omega arith
+rows-some (s ∷ slots) = let h : 1 ≤ gridTop s + 1 = omega arith in mul-le-mul (rows-some slots) h
 
 pub columns-some : (slots : List Slot) → 1 ≤ columnCount 1 slots
 columns-some [] = omega arith

@@ -17,9 +17,8 @@ use Rattle.model.proofs.DemandLaws.{slotAt}
 use Rattle.model.proofs.SheetLaws.{length-slots}
 use Rattle.model.proofs.UptoLaws.{suc-across}
 use Rattle.model.proofs.HeldLaws.{held-valid, held-count, held-slots, held-four, held-limit, held-limit-small}
-use Rattle.search.specs.Search.{SlotsIn}
+use Rattle.slots.specs.Slots.{SlotsIn, noSlot, SlotAt, Laid}
 use Rattle.slots.specs.declared.Slots.{Slots}
-use Rattle.slots.specs.Slots.{noSlot, SlotAt, Laid}
 use Rattle.slots.proofs.ArrayLaws.{set-each}
 
 -- ---- the slots of a book

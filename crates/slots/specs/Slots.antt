@@ -1,13 +1,20 @@
 -- The slots of a book as the numbers of the code, and its number of cells.
-use Prim.Native.Nat.{ℕ, _+_, _<_, _≤_}
+use Prim.Native.Nat.{ℕ, suc, _+_, _<_, _≤_}
 use mathlib.Core.Path.{_≡_}
-use mathlib.Core.List.{List}
+use mathlib.Core.List.{List, [], _∷_}
 use lib.ListN.{length, getD}
 use Rattle.model.specs.Grid.{Slot}
 use Rattle.model.specs.Trials.{gridTop}
 use Rattle.model.specs.Index.{widthOf, cellCount}
 use Rattle.model.specs.Bounds.{mostSlots, mostCells}
 use Rattle.slots.specs.declared.Slots.{Slots}
+
+-- from place t on, the steps, the numbers of active and of reactive values, and the limits of the slots
+abbrev pub SlotsIn : ℕ → List ℕ → List ℕ → List ℕ → List ℕ → ℕ → List Slot → Type 0
+SlotsIn r steps tops widths limits t [] = Unit {0}
+SlotsIn r steps tops widths limits t (s ∷ slots) =
+    ((getD steps t 0 ≡ s .step) × (getD tops t 0 ≡ gridTop s + 1) × (getD widths t 0 ≡ widthOf (suc r) s) × (getD limits t 0 ≡ s .limit))
+    × SlotsIn r steps tops widths limits (t + 1) slots
 
 abbrev pub noSlot : Slot
 noSlot = record { place = 0; limit = 0; step = 1; loads = 0 }

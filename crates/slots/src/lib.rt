@@ -6,8 +6,7 @@ ghost use Rattle.model.specs.Bounds.{mostLoads, mostFineness};
 ghost use Rattle.model.specs.Grid.{stepFor, slotsOf};
 ghost use Rattle.model.specs.Trials.{cells};
 ghost use Rattle.model.specs.Values.{Held, problemOf};
-ghost use Rattle.search.specs.Search.{SlotsIn};
-ghost use Rattle.slots.specs.Slots.{Capped};
+ghost use Rattle.slots.specs.Slots.{SlotsIn, Capped};
 
 // For each slot: the step L, the number R + 1 of active grid values and the number 2R + N + 1 of reactive ones.
 pub struct Slots {

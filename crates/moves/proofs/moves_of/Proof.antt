@@ -5,10 +5,9 @@ use native.Mathlib.Omega.{arith}
 use borrow.Author.Needs.{needs}
 use lib.ListN.{getD, length, length-set}
 use Rattle.model.specs.Values.{settingOf}
-use Rattle.pass.specs.Pass.{noMove}
-use Rattle.search.specs.Search.{MoveIs}
+use Rattle.stretch.specs.Stretch.{noMove}
+use Rattle.moves.specs.Moves.{MoveIs, LoadHeld}
 use Rattle.slots.specs.Slots.{Laid}
-use Rattle.moves.specs.Moves.{LoadHeld}
 use Rattle.slots.proofs.ArrayLaws.{set-each}
 use Rattle.moves.proofs.MoveLaws.{load-few}
 use Rattle.moves.proofs.LoadLaws.{load-all}

@@ -4,7 +4,8 @@ use mathlib.Core.Path.{refl}
 use native.Mathlib.Omega.{arith}
 use borrow.Author.Needs.{needs}
 use Prim.Native.Nat.{_≤_, _+_, _*_}
-use Rattle.pass.proofs.LayerLaws.{span-ends, opened-rows, opened-room, count-room, row-made, row-empty}
+use Rattle.rows.proofs.OpenLaws.{span-ends}
+use Rattle.pass.proofs.LayerLaws.{opened-rows, opened-room, count-room, row-made, row-empty}
 use Rattle.pass.proofs.load_row.Statement.{statement}
 use Rattle.pass.proofs.load_row.Tie as tie
 

@@ -7,7 +7,7 @@ use Prim.Native.Nat.{ℕ, _≤_, _-_, _*_}
 use mathlib.Core.Path.{_≡_}
 use lib.ListN.{length, length-replicate}
 use Rattle.model.specs.Bounds.{mostRows}
-use Rattle.pass.specs.Pass.{EmptyFrom}
+use Rattle.stretch.specs.Stretch.{EmptyFrom}
 use Rattle.pass.proofs.LayerLaws.{empty-more}
 use Rattle.search.specs.Search.{Modelled, Run}
 use Rattle.search.proofs.ModelLaws.{rows-one, grid-fits, load-fits}

@@ -6,16 +6,18 @@ use mathlib.Core.Option.{Option, none, some}
 use mathlib.Core.Logic.{_⊎_, inl, inr, ⊎-elim}
 use native.Mathlib.Nat.{add-zero}
 use native.Mathlib.Omega.{arith}
+use lib.ListN.{length}
 use borrow.Author.Tests.{lt-ltb, le-ltb, le-leb, lt-leb}
 use Rattle.model.specs.Cells.{Key, shift?}
 use Rattle.model.proofs.IntegerLaws.{split}
-use Rattle.table.specs.Table.{cellAt, keyOf, carriedRow, noCell, Filled}
-use Rattle.pass.specs.declared.Grid.{Grid}
-use Rattle.pass.specs.declared.LoadMoves.{LoadMoves}
-use Rattle.pass.specs.declared.Stretch.{Stretch}
-use Rattle.pass.specs.Pass.{sourceOf, moveOf, offerOf, raiseUpto, StretchesFit, Part, Ends, Spans, Opened}
-use Rattle.pass.proofs.KeyLaws.{key-empty}
-use Rattle.pass.proofs.SourceLaws.{source-in, source-out}
+use Rattle.table.specs.Table.{cellAt, keyOf, carriedRow, noCell, Rows, Filled}
+use Rattle.stretch.specs.declared.Grid.{Grid}
+use Rattle.stretch.specs.declared.LoadMoves.{LoadMoves}
+use Rattle.stretch.specs.declared.Stretch.{Stretch}
+use Rattle.stretch.specs.Stretch.{moveOf, GridFits, StretchesFit, Part, Spans}
+use Rattle.rows.specs.Row.{sourceOf, offerOf, raiseUpto, Ends, Opened}
+use Rattle.rows.proofs.KeyLaws.{key-empty}
+use Rattle.rows.proofs.SourceLaws.{row-end, source-in, source-out}
 
 shift-zero : (x : Option Key) → shift? 0 0 x ≡ x
 shift-zero none = refl
@@ -104,3 +106,13 @@ module _ {lows highs : List ℕ} (grid : Grid) (row : ℕ) (load : LoadMoves) (s
             ∙ sym (offer-source col);
         outside = λ x n. f .outside x (λ j k e. n (span .low + j) (omega arith) (omega arith) (omega arith));
       }
+
+-- a row's span lies within its row, and the words reach to its end
+module _ {lows highs : List ℕ} (grid : Grid) (row : ℕ) (load : LoadMoves) (span : Stretch) (g : GridFits grid) (l : row < grid .rows)
+    (q : Spans lows highs grid row load (load .count) span) where
+  pub span-ends : (row * grid .width + grid .width ≤ grid .cells) × (span .high ≤ grid .width)
+  span-ends = (omega (arith, row-end (grid .width) l, g .area), q .end .1)
+
+  pub clear-room : {ws : List ℕ} {cur next : ℕ} → Rows ws cur next (grid .cells) → span .low < span .high
+      → 2 * (next + row * grid .width + span .low + (span .high - span .low)) ≤ length ws
+  clear-room rows h = omega (arith, span-ends, rows .target)

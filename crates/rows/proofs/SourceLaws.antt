@@ -13,10 +13,11 @@ use lib.ListN.{getD, length}
 use Rattle.model.specs.Cells.{Key, shift?, Bounded}
 use Rattle.model.proofs.ListLaws.{both-true}
 use Rattle.table.specs.Table.{cellAt, keyOf, Rows}
-use Rattle.pass.specs.declared.SettingMove.{SettingMove}
-use Rattle.pass.specs.declared.Grid.{Grid}
-use Rattle.pass.specs.declared.LoadMoves.{LoadMoves}
-use Rattle.pass.specs.Pass.{heldIn, held, tried, sourceOf, moveOf, offerOf, GridFits, StretchesFit, MoveRoom, LoadRoom, Offers, RowKeys}
+use Rattle.stretch.specs.declared.SettingMove.{SettingMove}
+use Rattle.stretch.specs.declared.Grid.{Grid}
+use Rattle.stretch.specs.declared.LoadMoves.{LoadMoves}
+use Rattle.stretch.specs.Stretch.{tried, moveOf, GridFits, StretchesFit, Offers}
+use Rattle.rows.specs.Row.{heldIn, held, sourceOf, offerOf, MoveRoom, LoadRoom, RowKeys}
 
 -- the end of a row below n
 pub row-end : {row n : ℕ} (width : ℕ) → row < n → row * width + width ≤ n * width

@@ -13,7 +13,7 @@ use Rattle.model.specs.Cells.{Key, beats, join, shift?, joinUpto, Bounded}
 use Rattle.table.specs.declared.Cell.{Cell}
 use Rattle.table.specs.Table.{keyIf, keyOf, raised, offered, empty, Room}
 use Rattle.model.proofs.IntegerLaws.{split}
-use Rattle.pass.specs.Pass.{raise, raiseUpto}
+use Rattle.rows.specs.Row.{raise, raiseUpto}
 
 -- ---- a cell that is offered a choice
 

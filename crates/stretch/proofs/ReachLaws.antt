@@ -12,11 +12,11 @@ use lib.Dec.{leb}
 use lib.ListN.{getD}
 use Rattle.model.specs.Bounds.{mostCells}
 use Rattle.model.proofs.IntegerLaws.{split}
-use Rattle.pass.specs.declared.SettingMove.{SettingMove}
-use Rattle.pass.specs.declared.Grid.{Grid}
-use Rattle.pass.specs.declared.LoadMoves.{LoadMoves}
-use Rattle.pass.specs.declared.Stretch.{Stretch}
-use Rattle.pass.specs.Pass.{coversFrom, tried, moveOf, GridFits, StretchesFit, MoveFits, Clipped, Offers, Part, Joined, Spans}
+use Rattle.stretch.specs.declared.SettingMove.{SettingMove}
+use Rattle.stretch.specs.declared.Grid.{Grid}
+use Rattle.stretch.specs.declared.LoadMoves.{LoadMoves}
+use Rattle.stretch.specs.declared.Stretch.{Stretch}
+use Rattle.stretch.specs.Stretch.{coversFrom, tried, moveOf, GridFits, StretchesFit, MoveFits, Clipped, Offers, Part, Joined, Spans}
 
 -- `covers`: none of the slots passed, a slot that fails, one more passed, all passed
 pub covers-none : (tops active : List ℕ) (slots row : ℕ) → coversFrom tops active 0 slots row ≡ coversFrom tops active 0 (slots - 0) row

@@ -1,7 +1,7 @@
--- `pass::source_cell` meets its contract. Assumes nothing.
+-- `rows::source_cell` meets its contract. Assumes nothing.
 use borrow.Author.Needs.{needs}
-use Rattle.pass.proofs.source_cell.Statement.{statement}
-use Rattle.pass.proofs.source_cell.Tie as tie
+use Rattle.rows.proofs.source_cell.Statement.{statement}
+use Rattle.rows.proofs.source_cell.Tie as tie
 
 sub-result : tie.Need-sub-result
 sub-result c = search needs

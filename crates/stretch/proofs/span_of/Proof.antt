@@ -1,11 +1,11 @@
--- `pass::span_of` meets its contract. The invariant: the stretch holds all to which the first n settings offer something. Assumes nothing.
+-- `stretch::span_of` meets its contract. The invariant: the stretch holds all to which the first n settings offer something. Assumes nothing.
 use borrow.Author.Needs.{needs}
 use native.Mathlib.Omega.{arith}
 use Prim.Native.Nat.{_≤_, _-_}
-use Rattle.pass.specs.Pass.{Spans}
-use Rattle.pass.proofs.ReachLaws.{spans-none, spans-more, spans-all}
-use Rattle.pass.proofs.span_of.Statement.{statement}
-use Rattle.pass.proofs.span_of.Tie as tie
+use Rattle.stretch.specs.Stretch.{Spans}
+use Rattle.stretch.proofs.ReachLaws.{spans-none, spans-more, spans-all}
+use Rattle.stretch.proofs.span_of.Statement.{statement}
+use Rattle.stretch.proofs.span_of.Tie as tie
 
 abbrev Inv-loop : tie.InvT-loop
 Inv-loop grid lows highs row load count s₀ n₀ s n = (n ≤ load .count) × Spans lows highs grid row load n s

@@ -1,11 +1,11 @@
--- `pass::reach_of` meets its contract. The invariant: the rows from r on lie too far for the first n settings. Assumes nothing.
+-- `stretch::reach_of` meets its contract. The invariant: the rows from r on lie too far for the first n settings. Assumes nothing.
 use borrow.Author.Needs.{needs}
 use native.Mathlib.Omega.{arith}
 use Prim.Native.Nat.{ℕ, _≤_, _<_, _-_, _+_}
-use Rattle.pass.specs.Pass.{moveOf}
-use Rattle.pass.proofs.ReachLaws.{far-more}
-use Rattle.pass.proofs.reach_of.Statement.{statement}
-use Rattle.pass.proofs.reach_of.Tie as tie
+use Rattle.stretch.specs.Stretch.{moveOf}
+use Rattle.stretch.proofs.ReachLaws.{far-more}
+use Rattle.stretch.proofs.reach_of.Statement.{statement}
+use Rattle.stretch.proofs.reach_of.Tie as tie
 
 abbrev Inv-loop : tie.InvT-loop
 Inv-loop used load count rows r₀ n₀ r n =

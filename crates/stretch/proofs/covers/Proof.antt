@@ -1,12 +1,12 @@
--- `pass::covers` meets its contract. The invariant: what the slots from t on say of the rest of the row is what all slots say of the row.
+-- `stretch::covers` meets its contract. The invariant: what the slots from t on say of the rest of the row is what all slots say of the row.
 -- Assumes nothing.
 use Prim.Native.Nat.{_≤_, _-_}
 use mathlib.Core.Path.{_≡_}
 use native.Mathlib.Omega.{arith}
-use Rattle.pass.specs.Pass.{coversFrom}
-use Rattle.pass.proofs.ReachLaws.{covers-none, covers-less, covers-more, covers-all}
-use Rattle.pass.proofs.covers.Statement.{statement}
-use Rattle.pass.proofs.covers.Tie as tie
+use Rattle.stretch.specs.Stretch.{coversFrom}
+use Rattle.stretch.proofs.ReachLaws.{covers-none, covers-less, covers-more, covers-all}
+use Rattle.stretch.proofs.covers.Statement.{statement}
+use Rattle.stretch.proofs.covers.Tie as tie
 
 abbrev Inv-loop : tie.InvT-loop
 Inv-loop row slots tops active rest₀ t₀ rest t = (t ≤ slots) × (coversFrom tops active 0 slots row ≡ coversFrom tops active t (slots - t) rest)

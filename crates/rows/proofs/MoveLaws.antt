@@ -12,13 +12,14 @@ use lib.ListN.{getD}
 use Rattle.model.specs.Cells.{Key, shift?, Bounded}
 use Rattle.table.specs.Table.{cellAt, keyOf, offered, offeredRow, Filled, Roomy, Rows}
 use Rattle.model.proofs.IntegerLaws.{split}
-use Rattle.pass.specs.declared.SettingMove.{SettingMove}
-use Rattle.pass.specs.declared.Grid.{Grid}
-use Rattle.pass.specs.declared.LoadMoves.{LoadMoves}
-use Rattle.pass.specs.declared.Stretch.{Stretch}
-use Rattle.pass.specs.Pass.{held, sourceOf, moveOf, offerOf, raise, raiseUpto, GridFits, StretchesFit, MoveFits, MoveRoom, LoadRoom, Offers, Part, Ends, RowKeys, raisedRow, raisedRows}
-use Rattle.pass.proofs.KeyLaws.{key-offered, bounded-room}
-use Rattle.pass.proofs.SourceLaws.{row-end, held-in, source-in, source-out, Same, source-same, room-same, move-room, keys-same, rows-same}
+use Rattle.stretch.specs.declared.SettingMove.{SettingMove}
+use Rattle.stretch.specs.declared.Grid.{Grid}
+use Rattle.stretch.specs.declared.LoadMoves.{LoadMoves}
+use Rattle.stretch.specs.declared.Stretch.{Stretch}
+use Rattle.stretch.specs.Stretch.{moveOf, GridFits, StretchesFit, MoveFits, Offers, Part}
+use Rattle.rows.specs.Row.{held, sourceOf, offerOf, raise, raiseUpto, MoveRoom, LoadRoom, Ends, RowKeys, raisedRow, raisedRows}
+use Rattle.rows.proofs.KeyLaws.{key-offered, bounded-room}
+use Rattle.rows.proofs.SourceLaws.{row-end, held-in, source-in, source-out, Same, source-same, room-same, move-room, keys-same, rows-same}
 
 raise-none : (x : Option Key) → raise x none ≡ x
 raise-none none = refl

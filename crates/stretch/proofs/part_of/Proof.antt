@@ -1,8 +1,8 @@
--- `pass::part_of` meets its contract: one law for each branch. Assumes nothing.
+-- `stretch::part_of` meets its contract: one law for each branch. Assumes nothing.
 use borrow.Author.Needs.{needs}
-use Rattle.pass.proofs.ReachLaws.{clip-fits, part-low, part-empty, part-yes, part-no}
-use Rattle.pass.proofs.part_of.Statement.{statement}
-use Rattle.pass.proofs.part_of.Tie as tie
+use Rattle.stretch.proofs.ReachLaws.{clip-fits, part-low, part-empty, part-yes, part-no}
+use Rattle.stretch.proofs.part_of.Statement.{statement}
+use Rattle.stretch.proofs.part_of.Tie as tie
 
 returns : tie.Need-returns
 returns c = search part-low

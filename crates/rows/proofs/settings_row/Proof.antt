@@ -1,11 +1,11 @@
--- `pass::settings_row` meets its contract. The invariant: the row was offered what the first n settings bring. Assumes nothing.
+-- `rows::settings_row` meets its contract. The invariant: the row was offered what the first n settings bring. Assumes nothing.
 use borrow.Author.Needs.{needs}
 use native.Mathlib.Omega.{arith}
 use Prim.Native.Nat.{_≤_, _-_, _+_, _*_}
-use Rattle.pass.specs.Pass.{RowKeys, raisedRows}
-use Rattle.pass.proofs.MoveLaws.{moves-none, settings-rows, moves-room, moves-more, moves-all}
-use Rattle.pass.proofs.settings_row.Statement.{statement}
-use Rattle.pass.proofs.settings_row.Tie as tie
+use Rattle.rows.specs.Row.{RowKeys, raisedRows}
+use Rattle.rows.proofs.MoveLaws.{moves-none, settings-rows, moves-room, moves-more, moves-all}
+use Rattle.rows.proofs.settings_row.Statement.{statement}
+use Rattle.rows.proofs.settings_row.Tie as tie
 
 abbrev Inv-loop : tie.InvT-loop
 Inv-loop work₀ grid cur next lows highs row first load left n₀ work n =

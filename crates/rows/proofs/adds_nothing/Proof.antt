@@ -1,11 +1,11 @@
--- `pass::adds_nothing` meets its contract. Assumes nothing.
-use Prim.Native.Nat.{ℕ}
+-- `rows::adds_nothing` meets its contract. Assumes nothing.
 use mathlib.Core.Path.{_≡_}
+use Prim.Native.Nat.{ℕ}
 use native.Mathlib.Omega.{arith}
 use borrow.Author.Needs.{needs}
 use borrow.Author.Tests.{eqb-true}
-use Rattle.pass.proofs.adds_nothing.Statement.{statement}
-use Rattle.pass.proofs.adds_nothing.Tie as tie
+use Rattle.rows.proofs.adds_nothing.Statement.{statement}
+use Rattle.rows.proofs.adds_nothing.Tie as tie
 
 element-copy-out-mv : tie.Need-element-copy-out-mv
 element-copy-out-mv c = search needs

@@ -1,14 +1,14 @@
--- `pass::open_row` meets its contract. Assumes nothing.
+-- `rows::open_row` meets its contract. Assumes nothing.
 use Prim.Native.Nat.{_+_, _-_, _*_, _<_, _≤_}
 use mathlib.Core.Path.{_≡_}
 use native.Mathlib.Omega.{arith}
 use borrow.Author.Needs.{needs}
-use Rattle.pass.specs.Pass.{Ends, moveOf}
-use Rattle.pass.proofs.MoveLaws.{move-ends, move-rows}
-use Rattle.pass.proofs.OpenLaws.{part-inside, opened-empty, opened-copied}
-use Rattle.pass.proofs.LayerLaws.{clear-room}
-use Rattle.pass.proofs.open_row.Statement.{statement}
-use Rattle.pass.proofs.open_row.Tie as tie
+use Rattle.stretch.specs.Stretch.{moveOf}
+use Rattle.rows.specs.Row.{Ends}
+use Rattle.rows.proofs.MoveLaws.{move-ends, move-rows}
+use Rattle.rows.proofs.OpenLaws.{part-inside, opened-empty, opened-copied, clear-room}
+use Rattle.rows.proofs.open_row.Statement.{statement}
+use Rattle.rows.proofs.open_row.Tie as tie
 
 sub-len : tie.Need-sub-len
 sub-len c = search needs

@@ -1,11 +1,11 @@
--- `pass::setting_row` meets its contract. The row and its source row lie within their layers, as the part is what the setting offers.
+-- `rows::setting_row` meets its contract. The row and its source row lie within their layers, as the part is what the setting offers.
 -- Assumes nothing.
 use native.Mathlib.Omega.{arith}
 use borrow.Author.Needs.{needs}
-use Rattle.pass.specs.Pass.{Ends}
-use Rattle.pass.proofs.MoveLaws.{move-ends, move-rows, move-roomy, move-keys, move-still}
-use Rattle.pass.proofs.setting_row.Statement.{statement}
-use Rattle.pass.proofs.setting_row.Tie as tie
+use Rattle.rows.specs.Row.{Ends}
+use Rattle.rows.proofs.MoveLaws.{move-ends, move-rows, move-roomy, move-keys, move-still}
+use Rattle.rows.proofs.setting_row.Statement.{statement}
+use Rattle.rows.proofs.setting_row.Tie as tie
 
 part-of-requires : tie.Need-part-of-requires
 part-of-requires c κs =

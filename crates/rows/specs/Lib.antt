@@ -1,0 +1,2 @@
+-- What a row is.
+pub mod Row

@@ -1,0 +1,2 @@
+-- What a stretch is.
+pub mod Stretch
