@@ -28,15 +28,26 @@ fn main() -> ExitCode {
     trials.finish()
 }
 
-/// The functions of that way, of which the compiler makes one or more.
-fn of_planner(function: &str) -> bool {
-    let parts = ["planner::", "layout::", "search::"];
-    function == "jadeshuttle_plan" || parts.iter().any(|part| function.starts_with(part))
+/// The crates of the reader, on whose way the digits of Q and of -Q differ.
+const READER: [&str; 4] = ["hex", "header", "loadline", "book"];
+
+/// The crates that both ways share.
+const SHARED: [&str; 1] = ["model"];
+
+/// The functions of that way, of which the compiler makes one or more: those of every crate but the reader's and the shared ones.
+fn of_planner(function: &str, crates: &[String]) -> bool {
+    let apart = |name: &str| READER.contains(&name) || SHARED.contains(&name);
+    function == "jadeshuttle_plan" || crate_of(function, crates).is_some_and(|name| !apart(name))
 }
 
 /// Those of the reader before it.
-fn of_reader(function: &str) -> bool {
-    ["book::", "hex::"].iter().any(|part| function.starts_with(part))
+fn of_reader(function: &str, crates: &[String]) -> bool {
+    crate_of(function, crates).is_some_and(|name| READER.contains(&name))
+}
+
+fn crate_of<'a>(function: &'a str, crates: &[String]) -> Option<&'a str> {
+    let (name, _) = function.split_once("::")?;
+    crates.iter().any(|known| known == name).then_some(name)
 }
 
 /// How often each instruction was executed, by its address.
@@ -67,7 +78,8 @@ fn sample(scratch: &Path) -> Result<Sample, String> {
     }
     let books = size.split(' ').next().and_then(|count| count.parse().ok());
     let books = 1..=books.ok_or(format!("no number of books: {size}"))?;
-    let books: Result<_, String> = books.map(|book| planned(scratch, book)).collect();
+    let crates = project::names("crates")?;
+    let books: Result<_, String> = books.map(|book| planned(scratch, book, &crates)).collect();
     Ok(Sample { size, books: books? })
 }
 
@@ -89,19 +101,21 @@ fn run(scratch: &Path, sign: &str) -> Result<String, String> {
     }
 }
 
-fn planned(scratch: &Path, book: usize) -> Result<Planned, String> {
+fn planned(scratch: &Path, book: usize, crates: &[String]) -> Result<Planned, String> {
     let plus = project::text(scratch.join(format!("plus.{book}")))?;
     let minus = project::text(scratch.join(format!("minus.{book}")))?;
+    let planner = |function: &str| of_planner(function, crates);
+    let reader = |function: &str| of_reader(function, crates);
     Ok(Planned {
-        with: own(&plus, of_planner)?,
-        against: own(&minus, of_planner)?,
-        read_otherwise: own(&plus, of_reader)? != own(&minus, of_reader)?,
+        with: own(&plus, planner)?,
+        against: own(&minus, planner)?,
+        read_otherwise: own(&plus, reader)? != own(&minus, reader)?,
     })
 }
 
 /// The own instructions of these functions. The costs of what a function calls follow lines that begin with `calls=` and are
 /// not its own.
-fn own(profile: &str, counted: fn(&str) -> bool) -> Result<Counts, String> {
+fn own(profile: &str, counted: impl Fn(&str) -> bool) -> Result<Counts, String> {
     let mut counts = Counts::new();
     let mut inside = false;
     let mut lines = profile.lines();
