@@ -1,4 +1,5 @@
 // The three calls on damaged books.
+use comparison::Lent;
 use comparison::ROOM;
 use comparison::Wanted;
 use comparison::compare_plan;
@@ -17,49 +18,34 @@ fn compare_refused(
     book: &[u8],
     length: u64,
     work: &mut [u64],
-    words: u64,
+    lent: Lent,
     wanted: Wanted,
 ) {
-    let room = rest(words, ROOM);
     let sheet = [0u8; 192];
-    compare_plan(tally, book, length, work, words, room, wanted, &sheet, 0);
-    compare_quick(tally, book, length, room, wanted, &sheet);
-    compare_reading(tally, book, length, &sheet, room, wanted);
+    compare_plan(tally, book, length, work, lent, wanted, &sheet, 0);
+    compare_quick(tally, book, length, lent.room, wanted, &sheet);
+    compare_reading(tally, book, length, &sheet, lent.room, wanted);
 }
 
-fn compare_faults(
-    dice: &mut [u64],
-    tally: &mut [u64],
-    book: &[u64],
-    work: &mut [u64],
-    faults: Faults,
-) {
+// Gives the seed after.
+fn compare_faults(tally: &mut [u64], book: &[u64], work: &mut [u64], faults: Faults) -> u64 {
     let mut given = [0u8; 1024];
-    let length = damage::put_damaged(&mut given, dice, book, faults);
+    let damaged = damage::put_damaged(&mut given, book, faults);
     let first = damage::first(faults);
-    compare_refused(
-        tally,
-        &given,
-        length,
-        work,
-        roll(dice, 4096),
-        refusal(first.number, first.line),
-    );
+    let drawn = roll(damaged.seed, 4096);
+    let words = drawn.number;
+    let lent = Lent {
+        words,
+        room: rest(words, ROOM),
+    };
+    let wanted = refusal(first.number, first.line);
+    compare_refused(tally, &given, damaged.number, work, lent, wanted);
+    count(tally, plus(kinds::FAULTS, damage::shown(faults)), true);
+    drawn.seed
 }
 
-fn compare_one_fault(dice: &mut [u64], tally: &mut [u64], book: &[u64], work: &mut [u64]) {
-    let one = damage::draw_one(dice, book);
-    compare_faults(dice, tally, book, work, one);
-    count(tally, plus(kinds::FAULTS, 1), true);
-}
-
-fn compare_two_faults(dice: &mut [u64], tally: &mut [u64], book: &[u64], work: &mut [u64]) {
-    let two = damage::draw_two(dice, book);
-    compare_faults(dice, tally, book, work, two);
-    count(tally, plus(kinds::FAULTS, damage::shown(two)), true);
-}
-
-pub fn compare_damaged(dice: &mut [u64], tally: &mut [u64], book: &[u64], work: &mut [u64]) {
-    compare_one_fault(dice, tally, book, work);
-    compare_two_faults(dice, tally, book, work);
+// A book with one fault and with two. Gives the seed after.
+pub fn compare_damaged(seed: u64, tally: &mut [u64], book: &[u64], work: &mut [u64]) -> u64 {
+    let next = compare_faults(tally, book, work, damage::draw_one(seed, book));
+    compare_faults(tally, book, work, damage::draw_two(next, book))
 }

@@ -18,37 +18,37 @@ fn work_area() -> [u64; 393216]
 }
 
 // Room for the numbers of a book of up to ten loads.
-fn no_numbers() -> [u64; 288]
-    ensures { λ r. ⌜ 288 ≡ length r ⌝ }
+fn no_numbers() -> [u64; 297]
+    ensures { λ r. ⌜ 297 ≡ length r ⌝ }
 {
-    [0; 288]
+    [0; 297]
 }
 
-// The three calls on a book as it was drawn; the quick planner and the sheet reader at a budget of 0.
-fn compare_book(dice: &mut [u64], tally: &mut [u64], book: &mut [u64], work: &mut [u64]) {
+// The three calls on a book as it was drawn, and damaged. Gives the seed after.
+fn compare_book(seed: u64, tally: &mut [u64], book: &[u64], work: &mut [u64]) -> u64 {
     plans::compare_plans(tally, book, work);
-    plain::put(book, 3, 0);
     plans::compare_quicks(tally, book);
-    readings::compare_readings(dice, tally, book);
+    let next = readings::compare_readings(seed, tally, book);
+    faults::compare_damaged(next, tally, book, work)
 }
 
-fn run_turn(dice: &mut [u64], tally: &mut [u64], work: &mut [u64], turn: u64) {
+fn run_turn(seed: u64, tally: &mut [u64], work: &mut [u64], turn: u64) -> u64 {
     let mut book = no_numbers();
-    draws::draw_book(dice, tally, &mut book, turn);
-    compare_book(dice, tally, &mut book, work);
-    faults::compare_damaged(dice, tally, &book, work);
+    let next = draws::draw_book(seed, &mut book, turn);
+    draws::count_book(tally, &book);
+    compare_book(next, tally, &book, work)
 }
 
-fn run(dice: &mut [u64], tally: &mut [u64], work: &mut [u64]) {
+fn run(tally: &mut [u64], work: &mut [u64]) {
+    let mut seed = 20261115;
     for turn in 0..TURNS {
-        run_turn(dice, tally, work, turn);
+        seed = run_turn(seed, tally, work, turn);
     }
 }
 
 fn main() {
-    let mut dice = [20261115u64; 2];
     let mut tally = [0u64; 96];
     let mut work = work_area();
-    run(&mut dice, &mut tally, &mut work);
+    run(&mut tally, &mut work);
     kinds::print_tally(&tally);
 }

@@ -1,4 +1,5 @@
 // The planner and the quick planner against the enumeration, on books as they are drawn.
+use comparison::Lent;
 use comparison::Wanted;
 use comparison::compare_plan;
 use comparison::compare_quick;
@@ -11,7 +12,6 @@ use plain::lesser;
 use plain::minus;
 use plain::over;
 use plain::plus;
-use plain::put;
 use plain::rest;
 use plain::times;
 
@@ -36,13 +36,13 @@ fn find_plan(book: &[u64], sheet: &mut [u8]) -> Found {
 }
 
 // The first of refusals 9 to 12 that applies, or 0.
-fn first_refusal(found: Found, words: u64, room: u64, budget: u64) -> u64 {
+fn first_refusal(found: Found, lent: Lent, budget: u64) -> u64 {
     let done = found.done;
     if found.need > 4 * 1048576 {
         9
-    } else if words < found.need {
+    } else if lent.words < found.need {
         10
-    } else if room < done.bytes {
+    } else if lent.room < done.bytes {
         11
     } else if budget < done.trials {
         12
@@ -51,8 +51,8 @@ fn first_refusal(found: Found, words: u64, room: u64, budget: u64) -> u64 {
     }
 }
 
-fn wanted_plan(found: Found, words: u64, room: u64, budget: u64) -> Wanted {
-    let refused = first_refusal(found, words, room, budget);
+fn wanted_plan(found: Found, lent: Lent, budget: u64) -> Wanted {
+    let refused = first_refusal(found, lent, budget);
     if refused == 0 {
         found.done
     } else {
@@ -60,80 +60,48 @@ fn wanted_plan(found: Found, words: u64, room: u64, budget: u64) -> Wanted {
     }
 }
 
-// One case of the planner has budget, buffer and work area at the need or one less, by the case's bits, or more of the last two.
+// In each case the budget, the buffer and the work area are at the need or one less, by the case's bits; in the last there is more of
+// the last two.
 fn budget_in(case: u64, trials: u64) -> u64 {
     minus(trials, rest(case, 2))
 }
 
-fn room_in(case: u64, bytes: u64) -> u64 {
-    plus(
-        minus(bytes, rest(over(case, 2), 2)),
-        times(9, over(case, 8)),
-    )
-}
-
-fn words_in(case: u64, need: u64) -> u64 {
-    plus(
-        minus(need, rest(over(case, 4), 2)),
-        times(70, over(case, 8)),
-    )
-}
-
-fn compare_lent(
-    tally: &mut [u64],
-    given: &[u8],
-    length: u64,
-    work: &mut [u64],
-    found: Found,
-    sheet: &[u8],
-    case: u64,
-) {
+fn lent_in(case: u64, found: Found, most: u64) -> Lent {
     let done = found.done;
-    let room = room_in(case, done.bytes);
-    let words = lesser(words_in(case, found.need), work.len() as u64);
-    let wanted = wanted_plan(found, words, room, budget_in(case, done.trials));
-    compare_plan(
-        tally,
-        given,
-        length,
-        work,
-        words,
-        room,
-        wanted,
-        sheet,
-        found.need,
-    );
+    let words = minus(found.need, rest(over(case, 4), 2));
+    let room = minus(done.bytes, rest(over(case, 2), 2));
+    let more = over(case, 8);
+    Lent {
+        words: lesser(plus(words, times(70, more)), most),
+        room: plus(room, times(9, more)),
+    }
 }
 
 fn compare_case(
     tally: &mut [u64],
-    book: &mut [u64],
+    book: &[u64],
     work: &mut [u64],
     found: Found,
     sheet: &[u8],
     case: u64,
 ) {
     let done = found.done;
-    put(book, 3, budget_in(case, done.trials));
+    let budget = budget_in(case, done.trials);
+    let lent = lent_in(case, found, work.len() as u64);
+    let wanted = wanted_plan(found, lent, budget);
     let mut given = [0u8; 1024];
-    let length = put_book(&mut given, book);
-    compare_lent(tally, &given, length, work, found, sheet, case);
+    let length = put_book(&mut given, book, budget);
+    compare_plan(tally, &given, length, work, lent, wanted, sheet, found.need);
 }
 
-fn compare_cases(
-    tally: &mut [u64],
-    book: &mut [u64],
-    work: &mut [u64],
-    found: Found,
-    sheet: &[u8],
-) {
+fn compare_cases(tally: &mut [u64], book: &[u64], work: &mut [u64], found: Found, sheet: &[u8]) {
     for case in 0..9 {
         compare_case(tally, book, work, found, sheet, case);
     }
 }
 
 // Counts a book by what the enumeration found; `planned` says that it fits the work area.
-fn count_book(tally: &mut [u64], book: &[u64], equals: u64, planned: bool) {
+fn count_found(tally: &mut [u64], book: &[u64], equals: u64, planned: bool) {
     let slots = fields::slots(book);
     let steps = fields::steps_above(book);
     count(tally, kinds::TIES, equals > 0);
@@ -145,10 +113,10 @@ fn count_book(tally: &mut [u64], book: &[u64], equals: u64, planned: bool) {
     );
 }
 
-pub fn compare_plans(tally: &mut [u64], book: &mut [u64], work: &mut [u64]) {
+pub fn compare_plans(tally: &mut [u64], book: &[u64], work: &mut [u64]) {
     let mut sheet = [0u8; 192];
     let found = find_plan(book, &mut sheet);
-    count_book(tally, book, found.equals, found.need <= work.len() as u64);
+    count_found(tally, book, found.equals, found.need <= work.len() as u64);
     compare_cases(tally, book, work, found, &sheet);
 }
 
@@ -160,13 +128,13 @@ fn find_quick(book: &[u64], sheet: &mut [u8]) -> Wanted {
     success(bytes, enumeration::worth(book, choice), loads)
 }
 
-// The quick planner with the buffer at the need and one less.
+// The quick planner with the buffer at the need and one less, at a budget of 0.
 pub fn compare_quicks(tally: &mut [u64], book: &[u64]) {
     let mut sheet = [0u8; 192];
     let wanted = find_quick(book, &mut sheet);
     let bytes = wanted.bytes;
     let mut given = [0u8; 1024];
-    let length = put_book(&mut given, book);
+    let length = put_book(&mut given, book, 0);
     compare_quick(tally, &given, length, bytes, wanted, &sheet);
     compare_quick(
         tally,

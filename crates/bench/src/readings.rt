@@ -45,19 +45,23 @@ fn wanted_reading(book: &[u64], sheet: &[u8], bytes: u64) -> Wanted {
 
 fn compare_sheet(tally: &mut [u64], book: &[u64], sheet: &[u8], bytes: u64) {
     let mut given = [0u8; 1024];
-    let length = put_book(&mut given, book);
+    let length = put_book(&mut given, book, 0);
     let wanted = wanted_reading(book, sheet, bytes);
     compare_reading(tally, &given, length, sheet, bytes, wanted);
 }
 
-fn compare_drawn(dice: &mut [u64], tally: &mut [u64], book: &[u64], kind: u64) {
+fn compare_drawn(seed: u64, tally: &mut [u64], book: &[u64], kind: u64) -> u64 {
     let mut sheet = [0u8; 192];
-    let bytes = enumeration::draw_sheet(dice, &mut sheet, book, kind);
-    compare_sheet(tally, book, &sheet, bytes);
+    let bytes = enumeration::draw_sheet(seed, &mut sheet, book, kind);
+    compare_sheet(tally, book, &sheet, bytes.number);
+    bytes.seed
 }
 
-pub fn compare_readings(dice: &mut [u64], tally: &mut [u64], book: &[u64]) {
+// A sheet of each kind of change, of a book at a budget of 0. Gives the seed after.
+pub fn compare_readings(seed: u64, tally: &mut [u64], book: &[u64]) -> u64 {
+    let mut next = seed;
     for kind in 0..5 {
-        compare_drawn(dice, tally, book, kind);
+        next = compare_drawn(next, tally, book, kind);
     }
+    next
 }

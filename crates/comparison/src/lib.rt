@@ -79,6 +79,12 @@ fn same_reading(a: SheetAnswer, wanted: Wanted) -> bool {
     same_answer(answer, wanted) && a.code == wanted.code
 }
 
+// How many words of the work area and bytes of the buffer the planner is lent.
+pub struct Lent {
+    pub words: u64,
+    pub room: u64,
+}
+
 // What no call answers: the bench has lent more than it has.
 fn no_answer() -> Answer {
     Answer {
@@ -105,17 +111,10 @@ fn lend(book: &[u8], work: &mut [u64], words: u64, sheet: &mut [u8], room: u64) 
     }
 }
 
-fn ask_planner(
-    text: &[u8],
-    length: u64,
-    work: &mut [u64],
-    words: u64,
-    sheet: &mut [u8],
-    room: u64,
-) -> Answer {
+fn ask_planner(text: &[u8], length: u64, work: &mut [u64], lent: Lent, sheet: &mut [u8]) -> Answer {
     let l = length as usize;
     if l <= text.len() {
-        lend(&text[..l], work, words, sheet, room)
+        lend(&text[..l], work, lent.words, sheet, lent.room)
     } else {
         no_answer()
     }
@@ -157,29 +156,46 @@ fn ask_reader(text: &[u8], length: u64, sheet: &[u8], bytes: u64) -> SheetAnswer
 // Bytes of the buffers; a sheet of the bench has fewer.
 pub const ROOM: u64 = 192;
 
+// The word from which on the work area is to keep its values, where the planner uses so many.
+fn first_free(wanted: Wanted, used: u64) -> u64 {
+    if wanted.number == 0 || wanted.number == 12 {
+        used
+    } else {
+        0
+    }
+}
+
+// Whether the planner answers what is wanted, with the sheet in the buffer, and keeps the free words.
+fn plans_as_wanted(
+    book: &[u8],
+    length: u64,
+    work: &mut [u64],
+    lent: Lent,
+    wanted: Wanted,
+    sheet: &[u8],
+    free: u64,
+) -> bool {
+    let mut buffer = [46u8; 192];
+    mark(work, free, lent.words);
+    let answer = ask_planner(book, length, work, lent, &mut buffer);
+    same_answer(answer, wanted)
+        && marked(work, free, lent.words)
+        && same_buffer(&buffer, sheet, wanted)
+}
+
 // The planner's answer against the wanted one; `sheet` is what the buffer is to hold where that is no refusal.
 pub fn compare_plan(
     tally: &mut [u64],
     book: &[u8],
     length: u64,
     work: &mut [u64],
-    words: u64,
-    room: u64,
+    lent: Lent,
     wanted: Wanted,
     sheet: &[u8],
     used: u64,
 ) {
-    let free = if wanted.number == 0 || wanted.number == 12 {
-        used
-    } else {
-        0
-    };
-    let mut buffer = [46u8; 192];
-    mark(work, free, words);
-    let answer = ask_planner(book, length, work, words, &mut buffer, room);
-    let same = same_answer(answer, wanted)
-        && marked(work, free, words)
-        && same_buffer(&buffer, sheet, wanted);
+    let free = first_free(wanted, used);
+    let same = plans_as_wanted(book, length, work, lent, wanted, sheet, free);
     settle(tally, kinds::PLANNER, wanted, same);
 }
 

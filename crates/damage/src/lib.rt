@@ -1,7 +1,9 @@
 // Books with one fault or two, put in on purpose: a fault is a refusal's number of 1 to 8 and the line that it is put on. By
-// document 01's order the answer is that of the earlier line, and on one line the lower number.
+// document 01's order the answer is that of the earlier line, and on one line the lower number. A function that draws gives the seed
+// after, and one that changes a line its new end: as a drawn number, where it does both.
 use fields::put_header;
 use fields::put_load;
+use plain::Drawn;
 use plain::byte_at;
 use plain::greater;
 use plain::lesser;
@@ -12,6 +14,7 @@ use plain::put_end;
 use plain::put_number;
 use plain::rest;
 use plain::roll;
+use plain::roll_from;
 use plain::times;
 
 const NO_LINE: u64 = 1000;
@@ -21,57 +24,71 @@ pub struct Fault {
     pub line: u64,
 }
 
-// Two faults, the higher number first; where there is one only, the other is on no line.
+// Two faults, the higher number first, and the seed after them; where there is one only, the other is on no line.
 pub struct Faults {
     pub high: Fault,
     pub low: Fault,
+    pub seed: u64,
 }
 
 // A line on which a fault of this number can be.
-fn draw_line(dice: &mut [u64], book: &[u64], number: u64) -> u64 {
+fn draw_line(seed: u64, book: &[u64], number: u64) -> Drawn {
     let loads = fields::loads(book);
     if number == 6 {
-        1
+        Drawn { number: 1, seed }
     } else if number == 7 {
-        plus(2, roll(dice, loads))
+        roll_from(seed, 2, loads)
     } else if number == 8 {
-        plus(loads, 2)
+        Drawn {
+            number: plus(loads, 2),
+            seed,
+        }
     } else {
-        plus(1, roll(dice, plus(loads, 1)))
+        roll_from(seed, 1, plus(loads, 1))
     }
 }
 
-fn draw_fault(dice: &mut [u64], book: &[u64], number: u64) -> Fault {
-    let line = draw_line(dice, book, number);
-    Fault { number, line }
-}
-
-pub fn draw_one(dice: &mut [u64], book: &[u64]) -> Faults {
-    let number = plus(1, roll(dice, 8));
-    let one = draw_fault(dice, book, number);
+pub fn draw_one(seed: u64, book: &[u64]) -> Faults {
+    let one = roll_from(seed, 1, 8);
+    let number = one.number;
+    let line = draw_line(one.seed, book, number);
     Faults {
         high: Fault {
             number: 0,
             line: NO_LINE,
         },
-        low: one,
+        low: Fault {
+            number,
+            line: line.number,
+        },
+        seed: line.seed,
     }
 }
 
 // Two faults of different numbers.
-pub fn draw_two(dice: &mut [u64], book: &[u64]) -> Faults {
-    let number = plus(2, roll(dice, 7));
-    let lower = plus(1, roll(dice, minus(number, 1)));
-    let high = draw_fault(dice, book, number);
-    let low = draw_fault(dice, book, lower);
-    Faults { high, low }
+pub fn draw_two(seed: u64, book: &[u64]) -> Faults {
+    let one = roll_from(seed, 2, 7);
+    let other = roll_from(one.seed, 1, minus(one.number, 1));
+    let high = draw_line(other.seed, book, one.number);
+    let low = draw_line(high.seed, book, other.number);
+    Faults {
+        high: Fault {
+            number: one.number,
+            line: high.number,
+        },
+        low: Fault {
+            number: other.number,
+            line: low.number,
+        },
+        seed: low.seed,
+    }
 }
 
-// How many of two faults are in the text: nothing comes after an unterminated line.
+// How many faults are in the text: nothing comes after an unterminated line.
 pub fn shown(faults: Faults) -> u64 {
     let high = faults.high;
     let low = faults.low;
-    if low.number == 1 && high.line > low.line {
+    if high.number == 0 || (low.number == 1 && high.line > low.line) {
         1
     } else {
         2
@@ -85,35 +102,49 @@ pub fn first(faults: Faults) -> Fault {
     if high.line < low.line { high } else { low }
 }
 
-// T or o out of its range (crowded), by two digits that begin at the line's third.
-fn slots_or_options_out_of_range(text: &mut [u8], start: u64, dice: &mut [u64]) {
-    let least = if start == 0 { 5 } else { 4 };
-    let kind = roll(dice, 3);
-    let more = roll(dice, minus(256, least));
-    let range = if kind == 0 {
-        0
-    } else {
-        plus(least, times(more, minus(kind, 1)))
-    };
-    put_number(text, plus(start, 2), 2, range);
+// Puts a drawn number of two digits.
+fn put_drawn(text: &mut [u8], place: u64, drawn: Drawn) -> u64 {
+    put_number(text, place, 2, drawn.number);
+    drawn.seed
 }
 
-// A number of two digits out of its range: 0, or some number from the least that is too large on.
-fn draw_out_of_range(dice: &mut [u64], is_zero: bool, least: u64) -> u64 {
-    if is_zero {
+// A range that begins with a number that is too large: 0, that number, or one from it on.
+fn draw_range(seed: u64, least: u64) -> Drawn {
+    let kind = roll(seed, 3);
+    let more = roll(kind.seed, minus(256, least));
+    let number = if kind.number == 0 {
         0
     } else {
-        plus(least, roll(dice, minus(256, least)))
+        plus(least, times(more.number, minus(kind.number, 1)))
+    };
+    Drawn {
+        number,
+        seed: more.seed,
+    }
+}
+
+// T or o out of its range (crowded), by two digits that begin at the line's third.
+fn slots_or_options_out_of_range(text: &mut [u8], start: u64, seed: u64) -> u64 {
+    let least = if start == 0 { 5 } else { 4 };
+    put_drawn(text, plus(start, 2), draw_range(seed, least))
+}
+
+// 0, or some number of two digits from the least that is too large on.
+fn draw_out_of_range(seed: u64, is_zero: bool, least: u64) -> Drawn {
+    if is_zero {
+        Drawn { number: 0, seed }
+    } else {
+        roll_from(seed, least, minus(256, least))
     }
 }
 
 // N or d out of its range (beyond).
-fn loads_or_fineness_out_of_range(text: &mut [u8], dice: &mut [u64]) {
-    let kind = roll(dice, 4);
-    if kind < 2 {
-        put_number(text, 4, 2, draw_out_of_range(dice, kind == 0, 25));
+fn loads_or_fineness_out_of_range(text: &mut [u8], seed: u64) -> u64 {
+    let kind = roll(seed, 4);
+    if kind.number < 2 {
+        put_drawn(text, 4, draw_out_of_range(kind.seed, kind.number == 0, 25))
     } else {
-        put_number(text, 6, 2, draw_out_of_range(dice, kind == 2, 65));
+        put_drawn(text, 6, draw_out_of_range(kind.seed, kind.number == 2, 65))
     }
 }
 
@@ -127,11 +158,14 @@ fn either(far: u64, side: u64) -> u64 {
 }
 
 // Where some option's P and Q of some slot begin on a load's line.
-fn draw_pair(dice: &mut [u64], book: &[u64], load: u64) -> u64 {
-    let option = roll(dice, fields::options(book, load));
-    let slot = roll(dice, fields::slots(book));
+fn draw_pair(seed: u64, book: &[u64], load: u64) -> Drawn {
+    let option = roll(seed, fields::options(book, load));
+    let slot = roll(option.seed, fields::slots(book));
     let each = times(4, fields::used(book));
-    plus(8, plus(times(option, each), times(8, slot)))
+    Drawn {
+        number: plus(8, plus(times(option.number, each), times(8, slot.number))),
+        seed: slot.seed,
+    }
 }
 
 // One above P, the farthest that there is, or between.
@@ -146,163 +180,200 @@ fn farther(p: u64, more: u64, kind: u64) -> u64 {
 }
 
 // A Q with |Q| one above P, or more.
-fn draw_exceeding(dice: &mut [u64], p: u64) -> u64 {
-    let more = roll(dice, minus(32768, p));
-    let far = farther(p, more, roll(dice, 3));
-    either(far, roll(dice, 2))
+fn draw_exceeding(seed: u64, p: u64) -> Drawn {
+    let more = roll(seed, minus(32768, p));
+    let kind = roll(more.seed, 3);
+    let side = roll(kind.seed, 2);
+    let far = farther(p, more.number, kind.number);
+    Drawn {
+        number: either(far, side.number),
+        seed: side.seed,
+    }
 }
 
-fn put_exceeding(text: &mut [u8], place: u64, dice: &mut [u64]) {
-    let p = roll(dice, 32768);
-    let next = put_number(text, place, 4, p);
-    put_number(text, next, 4, draw_exceeding(dice, p));
+fn put_exceeding(text: &mut [u8], place: u64, seed: u64) -> u64 {
+    let p = roll(seed, 32768);
+    let q = draw_exceeding(p.seed, p.number);
+    let next = put_number(text, place, 4, p.number);
+    put_number(text, next, 4, q.number);
+    q.seed
 }
 
 // |Q| above P in some option and slot (slack).
-fn reactive_exceeds_active(text: &mut [u8], start: u64, dice: &mut [u64], book: &[u64], load: u64) {
-    let place = draw_pair(dice, book, load);
-    put_exceeding(text, plus(start, place), dice);
+fn reactive_exceeds_active(text: &mut [u8], start: u64, seed: u64, book: &[u64], load: u64) -> u64 {
+    let place = draw_pair(seed, book, load);
+    put_exceeding(text, plus(start, place.number), place.seed)
 }
 
 // A byte of the line that is no digit (smudged); an empty line gets one.
-fn not_hex(text: &mut [u8], start: u64, end: u64, dice: &mut [u64]) -> u64 {
-    let place = plus(start, roll(dice, minus(end, start)));
-    put_byte(text, place, byte_at(b"gafG:/@` \r\t\0", roll(dice, 12)));
-    greater(end, plus(place, 1))
+fn not_hex(text: &mut [u8], line: Line, seed: u64) -> Drawn {
+    let place = roll_from(seed, line.start, minus(line.end, line.start));
+    let byte = roll(place.seed, 12);
+    put_byte(text, place.number, byte_at(b"gafG:/@` \r\t\0", byte.number));
+    Drawn {
+        number: greater(line.end, plus(place.number, 1)),
+        seed: byte.seed,
+    }
 }
 
 // An unterminated line (torn) ends early.
-fn unterminated(start: u64, end: u64, dice: &mut [u64]) -> u64 {
-    plus(start, roll(dice, plus(minus(end, start), 1)))
+fn unterminated(line: Line, seed: u64) -> Drawn {
+    roll_from(seed, line.start, plus(minus(line.end, line.start), 1))
 }
 
 // One digit more or less (misshapen).
-fn wrong_length(text: &mut [u8], end: u64, dice: &mut [u64]) -> u64 {
+fn wrong_length(text: &mut [u8], end: u64, seed: u64) -> Drawn {
+    let less = roll(seed, 2);
     put_byte(text, end, b'0');
-    minus(plus(end, 1), times(2, roll(dice, 2)))
-}
-
-// Puts a fault of 1 to 3 into a line without its end, and gives the line's new end.
-fn put_digits_fault(text: &mut [u8], start: u64, end: u64, dice: &mut [u64], number: u64) -> u64 {
-    if number == 3 {
-        wrong_kind(text, start, end, dice)
-    } else if number == 2 {
-        not_hex(text, start, end, dice)
-    } else {
-        unterminated(start, end, dice)
+    Drawn {
+        number: minus(plus(end, 1), times(2, less.number)),
+        seed: less.seed,
     }
 }
 
-// The same of a fault of 1 to 5.
-fn put_line_fault(text: &mut [u8], start: u64, end: u64, dice: &mut [u64], number: u64) -> u64 {
-    if number == 5 {
-        wrong_length(text, end, dice)
-    } else if number == 4 {
-        slots_or_options_out_of_range(text, start, dice);
-        end
-    } else {
-        put_digits_fault(text, start, end, dice, number)
+// A kind that is not due.
+fn draw_wrong_kind(seed: u64, due: u64) -> Drawn {
+    let other = roll_from(seed, plus(due, 1), 255);
+    Drawn {
+        number: rest(other.number, 256),
+        seed: other.seed,
     }
-}
-
-// Puts one fault into a line without its end, and gives the line's new end.
-fn put_fault(
-    text: &mut [u8],
-    start: u64,
-    end: u64,
-    dice: &mut [u64],
-    book: &[u64],
-    fault: Fault,
-) -> u64 {
-    let number = fault.number;
-    if number == 7 {
-        reactive_exceeds_active(text, start, dice, book, minus(fault.line, 2));
-        end
-    } else if number == 6 {
-        loads_or_fineness_out_of_range(text, dice);
-        end
-    } else {
-        put_line_fault(text, start, end, dice, number)
-    }
-}
-
-// A kind that is not due, of two digits.
-fn put_wrong_kind(text: &mut [u8], start: u64, dice: &mut [u64]) {
-    let due = if start == 0 { 1 } else { 2 };
-    let other = plus(plus(due, 1), roll(dice, 255));
-    put_number(text, start, 2, rest(other, 256));
 }
 
 // Fewer than 4 digits, or a kind that is not due (stray).
-fn wrong_kind(text: &mut [u8], start: u64, end: u64, dice: &mut [u64]) -> u64 {
-    let digits = roll(dice, 8);
-    if digits < 4 {
-        plus(start, digits)
+fn wrong_kind(text: &mut [u8], line: Line, seed: u64) -> Drawn {
+    let digits = roll_from(seed, line.start, 8);
+    if digits.number < plus(line.start, 4) {
+        digits
     } else {
-        put_wrong_kind(text, start, dice);
-        end
+        let due = if line.start == 0 { 1 } else { 2 };
+        Drawn {
+            number: line.end,
+            seed: put_drawn(text, line.start, draw_wrong_kind(digits.seed, due)),
+        }
+    }
+}
+
+// Where a line stands in the text, without its end.
+struct Line {
+    start: u64,
+    end: u64,
+}
+
+// Puts a fault of 1 to 3 into a line.
+fn put_digits_fault(text: &mut [u8], line: Line, seed: u64, number: u64) -> Drawn {
+    if number == 3 {
+        wrong_kind(text, line, seed)
+    } else if number == 2 {
+        not_hex(text, line, seed)
+    } else {
+        unterminated(line, seed)
+    }
+}
+
+// Puts a fault of 4, 6 or 7 into a line, whose end stays where it is.
+fn put_number_fault(text: &mut [u8], start: u64, seed: u64, book: &[u64], fault: Fault) -> u64 {
+    let number = fault.number;
+    if number == 7 {
+        reactive_exceeds_active(text, start, seed, book, minus(fault.line, 2))
+    } else if number == 6 {
+        loads_or_fineness_out_of_range(text, seed)
+    } else {
+        slots_or_options_out_of_range(text, start, seed)
+    }
+}
+
+// Puts one fault into a line.
+fn put_fault(text: &mut [u8], line: Line, seed: u64, book: &[u64], fault: Fault) -> Drawn {
+    let number = fault.number;
+    if number < 4 {
+        put_digits_fault(text, line, seed, number)
+    } else if number == 5 {
+        wrong_length(text, line.end, seed)
+    } else {
+        Drawn {
+            number: line.end,
+            seed: put_number_fault(text, line.start, seed, book, fault),
+        }
+    }
+}
+
+// Puts a fault into a line if it is to stand there.
+fn put_fault_on(
+    text: &mut [u8],
+    line: Line,
+    seed: u64,
+    book: &[u64],
+    fault: Fault,
+    is_on: bool,
+) -> Drawn {
+    if is_on && fault.number < 8 {
+        put_fault(text, line, seed, book, fault)
+    } else {
+        Drawn {
+            number: line.end,
+            seed,
+        }
     }
 }
 
 // The line with the faults that are on it: the one of the higher number first, which the other then leaves hidden.
 fn put_faults(
     text: &mut [u8],
-    start: u64,
-    end: u64,
-    dice: &mut [u64],
+    line: Line,
+    seed: u64,
     book: &[u64],
     faults: Faults,
-    line: u64,
-) -> u64 {
-    let with_high = put_fault_on(text, start, end, dice, book, faults.high, line);
-    put_fault_on(text, start, with_high, dice, book, faults.low, line)
+    n: u64,
+) -> Drawn {
+    let high = faults.high;
+    let low = faults.low;
+    let with_high = put_fault_on(text, line, seed, book, high, high.line == n);
+    let changed = Line {
+        start: line.start,
+        end: with_high.number,
+    };
+    put_fault_on(text, changed, with_high.seed, book, low, low.line == n)
 }
 
-fn put_fault_on(
-    text: &mut [u8],
-    start: u64,
-    end: u64,
-    dice: &mut [u64],
-    book: &[u64],
-    fault: Fault,
-    line: u64,
-) -> u64 {
-    if fault.line == line && fault.number < 8 {
-        put_fault(text, start, end, dice, book, fault)
+// The n-th line of a book without its end.
+fn put_line(text: &mut [u8], start: u64, book: &[u64], n: u64) -> u64 {
+    if n == 1 {
+        put_header(text, book, 0)
     } else {
-        end
+        put_load(text, start, book, minus(n, 2))
     }
 }
 
-fn put_line(text: &mut [u8], start: u64, book: &[u64], line: u64) -> u64 {
-    if line == 1 {
-        put_header(text, book)
-    } else {
-        put_load(text, start, book, minus(line, 2))
+fn put_damaged_line(text: &mut [u8], before: Drawn, book: &[u64], faults: Faults, n: u64) -> Drawn {
+    let start = before.number;
+    let end = put_line(text, start, book, n);
+    let damaged = put_faults(text, Line { start, end }, before.seed, book, faults, n);
+    Drawn {
+        number: put_end_unless(text, damaged.number, n == unterminated_line(faults)),
+        seed: damaged.seed,
     }
 }
 
-fn put_damaged_line(
-    text: &mut [u8],
-    start: u64,
-    dice: &mut [u64],
-    book: &[u64],
-    faults: Faults,
-    line: u64,
-) -> u64 {
-    let mut end = put_line(text, start, book, line);
-    end = put_faults(text, start, end, dice, book, faults, line);
-    put_end_unless(text, end, line == unterminated_line(faults))
+fn put_damaged_lines(text: &mut [u8], book: &[u64], faults: Faults) -> Drawn {
+    let last = lesser(unterminated_line(faults), plus(fields::loads(book), 1));
+    let mut end = Drawn {
+        number: 0,
+        seed: faults.seed,
+    };
+    for n in 1..plus(last, 1) {
+        end = put_damaged_line(text, end, book, faults, n);
+    }
+    end
 }
 
-// A book's text with its faults; an unterminated line is the last.
-pub fn put_damaged(text: &mut [u8], dice: &mut [u64], book: &[u64], faults: Faults) -> u64 {
-    let unterminated = unterminated_line(faults);
-    let mut end = 0;
-    for line in 1..plus(lesser(unterminated, plus(fields::loads(book), 1)), 1) {
-        end = put_damaged_line(text, end, dice, book, faults, line);
+// A book's text with its faults, at a budget of 0; an unterminated line is the last.
+pub fn put_damaged(text: &mut [u8], book: &[u64], faults: Faults) -> Drawn {
+    let lines = put_damaged_lines(text, book, faults);
+    Drawn {
+        number: put_trailing(text, lines.number, faults),
+        seed: lines.seed,
     }
-    put_trailing(text, end, faults)
 }
 
 // The line that is unterminated (torn), if one is.

@@ -1,7 +1,9 @@
-// The generator of books. `dice` holds what the next draw depends on: the seed's present number, and how the present load is
-// drawn. What is drawn is counted by kind in `tally`.
+// The generator of books, from a seed, and the counts of what it drew. Each function that draws gives the seed after.
+mod count;
+
+pub use count::count_book;
+use plain::Drawn;
 use plain::at;
-use plain::count;
 use plain::greater;
 use plain::lesser;
 use plain::minus;
@@ -10,6 +12,7 @@ use plain::plus;
 use plain::put;
 use plain::rest;
 use plain::roll;
+use plain::roll_from;
 use plain::times;
 
 // Whether a book's table is kept small by limits near 0, as more loads or more slots would pass the work area.
@@ -19,163 +22,156 @@ fn is_tight(book: &[u64]) -> bool {
 }
 
 // A fineness for which most books fit the work area, by T and N.
-fn draw_fitting(dice: &mut [u64], slots: u64, loads: u64) -> u64 {
+fn draw_fitting(seed: u64, slots: u64, loads: u64) -> Drawn {
     if slots == 1 {
-        plus(1, roll(dice, lesser(64, over(160, loads))))
+        roll_from(seed, 1, lesser(64, over(160, loads)))
     } else if slots == 2 {
-        plus(1, roll(dice, greater(1, over(8, loads))))
+        roll_from(seed, 1, greater(1, over(8, loads)))
     } else {
-        1
+        Drawn { number: 1, seed }
     }
 }
 
 // A fineness: any, or one that fits.
-fn draw_fineness(dice: &mut [u64], book: &[u64]) -> u64 {
-    let kind = roll(dice, 32);
-    if kind == 0 || (kind < 16 && is_tight(book)) {
-        plus(1, roll(dice, 64))
+fn draw_fineness(seed: u64, book: &[u64]) -> Drawn {
+    let kind = roll(seed, 32);
+    if kind.number == 0 || (kind.number < 16 && is_tight(book)) {
+        roll_from(kind.seed, 1, 64)
     } else {
-        draw_fitting(dice, fields::slots(book), fields::loads(book))
+        draw_fitting(kind.seed, fields::slots(book), fields::loads(book))
     }
 }
 
 // A limit of a tight book: with the least fineness a step above 1 in some slots and 0 in most others, else near 0.
-fn draw_tight(dice: &mut [u64], book: &[u64]) -> u64 {
-    let kind = roll(dice, 16);
-    if fields::fineness(book) == 1 && kind < 6 {
-        draw_multiple(dice, fields::loads(book))
-    } else if fields::fineness(book) == 1 && kind < 13 {
-        0
+fn draw_tight(seed: u64, book: &[u64]) -> Drawn {
+    let kind = roll(seed, 16);
+    let least = fields::fineness(book) == 1;
+    if least && kind.number < 6 {
+        draw_multiple(kind.seed, fields::loads(book))
+    } else if least && kind.number < 13 {
+        Drawn {
+            number: 0,
+            seed: kind.seed,
+        }
     } else {
-        roll(dice, minus(6, fields::slots(book)))
+        roll(kind.seed, minus(6, fields::slots(book)))
     }
 }
 
 // A multiple of N × d and a little more, so that R is N × d. The steps are small in every other draw, as there the spread tells most.
-fn draw_multiple(dice: &mut [u64], parts: u64) -> u64 {
-    let small = roll(dice, 2) == 0;
-    let most = if small { 4 } else { 200 };
-    let step = plus(1, roll(dice, lesser(most, minus(over(65535, parts), 1))));
-    plus(times(parts, step), roll(dice, lesser(step, parts)))
+fn draw_multiple(seed: u64, parts: u64) -> Drawn {
+    let size = roll(seed, 2);
+    let most = if size.number == 0 { 4 } else { 200 };
+    let step = roll_from(size.seed, 1, lesser(most, minus(over(65535, parts), 1)));
+    roll_from(
+        step.seed,
+        times(parts, step.number),
+        lesser(step.number, parts),
+    )
 }
 
 // A limit of a book that is not tight: below the first step above 1, or a multiple of N × d and a little more.
-fn draw_wide(dice: &mut [u64], parts: u64, kind: u64) -> u64 {
+fn draw_wide(seed: u64, parts: u64, kind: u64) -> Drawn {
     if kind < 6 {
-        roll(dice, times(2, parts))
+        roll(seed, times(2, parts))
     } else {
-        draw_multiple(dice, parts)
+        draw_multiple(seed, parts)
     }
 }
 
 // A limit: any, 0, or as the book's T and N bear it.
-fn draw_limit(dice: &mut [u64], book: &[u64]) -> u64 {
-    let kind = roll(dice, 16);
-    if kind == 0 {
-        roll(dice, 65536)
-    } else if kind == 1 {
-        0
+fn draw_limit(seed: u64, book: &[u64]) -> Drawn {
+    let kind = roll(seed, 16);
+    let next = kind.seed;
+    if kind.number == 0 {
+        roll(next, 65536)
+    } else if kind.number == 1 {
+        Drawn {
+            number: 0,
+            seed: next,
+        }
     } else if is_tight(book) {
-        draw_tight(dice, book)
+        draw_tight(next, book)
     } else {
-        draw_wide(
-            dice,
-            times(fields::loads(book), fields::fineness(book)),
-            kind,
-        )
+        let parts = times(fields::loads(book), fields::fineness(book));
+        draw_wide(next, parts, kind.number)
     }
 }
 
 // N: mostly up to 8, now and then 9 or 10.
-fn draw_count(dice: &mut [u64]) -> u64 {
-    let many = roll(dice, 24) == 0;
-    let few = roll(dice, 8);
-    if many {
-        plus(9, rest(few, 2))
+fn draw_count(seed: u64) -> Drawn {
+    let many = roll(seed, 24);
+    let few = roll(many.seed, 8);
+    let number = if many.number == 0 {
+        plus(9, rest(few.number, 2))
     } else {
-        plus(1, few)
+        plus(1, few.number)
+    };
+    Drawn {
+        number,
+        seed: few.seed,
     }
 }
 
-// T in turn, then N and d; the budget is the most there is.
-fn draw_header(dice: &mut [u64], book: &mut [u64], turn: u64) {
+// T in turn, then N and d.
+fn draw_header(seed: u64, book: &mut [u64], turn: u64) -> u64 {
+    let count = draw_count(seed);
     put(book, 0, plus(1, rest(turn, 4)));
-    put(book, 1, draw_count(dice));
-    let fineness = draw_fineness(dice, book);
-    put(book, 2, fineness);
-    put(book, 3, 0xFFFFFFFF);
+    put(book, 1, count.number);
+    let fineness = draw_fineness(count.seed, book);
+    put(book, 2, fineness.number);
+    fineness.seed
 }
 
-fn draw_slot(dice: &mut [u64], book: &mut [u64], slot: u64) {
-    let limit = draw_limit(dice, book);
-    put(book, plus(4, slot), limit);
+fn draw_slot(seed: u64, book: &mut [u64], slot: u64) -> u64 {
+    let limit = draw_limit(seed, book);
+    put(book, plus(3, slot), limit.number);
+    limit.seed
 }
 
-fn draw_slots(dice: &mut [u64], book: &mut [u64]) {
+fn draw_slots(seed: u64, book: &mut [u64]) -> u64 {
+    let mut next = seed;
     for slot in 0..fields::slots(book) {
-        draw_slot(dice, book, slot);
+        next = draw_slot(next, book, slot);
     }
+    next
 }
 
-fn kind_of_slot(book: &[u64], slot: u64) -> u64 {
-    if fields::limit(book, slot) == 0 {
-        kinds::LIMIT_ZERO
-    } else if fields::step(book, slot) == 1 {
-        kinds::STEP_ONE
-    } else {
-        kinds::STEP_ABOVE_ONE
-    }
-}
-
-fn count_slots(tally: &mut [u64], book: &[u64]) {
-    for slot in 0..fields::slots(book) {
-        count(tally, kind_of_slot(book, slot), true);
-    }
-}
-
-// Counts a book by its T, and its slots by kind.
-fn count_header(tally: &mut [u64], book: &[u64]) {
-    count(tally, plus(kinds::BOOKS, fields::slots(book)), true);
-    count_slots(tally, book);
-}
-
-// As many options as the enumeration bears, and whether the load is a twin of the one before.
-fn draw_options(dice: &mut [u64], book: &[u64]) -> u64 {
-    let twin = roll(dice, 6);
-    put(dice, 1, twin);
-    let loads = fields::loads(book);
+// As many options as the enumeration bears.
+fn draw_options(seed: u64, loads: u64) -> Drawn {
     if loads < 5 {
-        plus(1, roll(dice, 3))
+        roll_from(seed, 1, 3)
     } else if loads == 5 {
-        plus(1, roll(dice, 2))
+        roll_from(seed, 1, 2)
     } else {
-        1
+        Drawn { number: 1, seed }
     }
 }
 
 // Worth: of few values, so that there are ties, or any.
-fn draw_worth(dice: &mut [u64]) -> u64 {
-    if roll(dice, 3) == 0 {
-        roll(dice, 65536)
-    } else {
-        roll(dice, 4)
-    }
+fn draw_worth(seed: u64) -> Drawn {
+    let kind = roll(seed, 3);
+    let values = if kind.number == 0 { 65536 } else { 4 };
+    roll(kind.seed, values)
 }
 
 // P: such that some of the loads fit together, and now and then any.
-fn draw_active(dice: &mut [u64], book: &[u64], slot: u64) -> u64 {
-    if roll(dice, 40) == 0 {
-        roll(dice, 65536)
+fn draw_active(seed: u64, book: &[u64], slot: u64) -> Drawn {
+    let kind = roll(seed, 40);
+    if kind.number == 0 {
+        roll(kind.seed, 65536)
     } else {
         let share = over(times(3, fields::limit(book, slot)), fields::loads(book));
-        lesser(65535, roll(dice, plus(share, 2)))
+        let p = roll(kind.seed, plus(share, 2));
+        Drawn {
+            number: lesser(65535, p.number),
+            seed: p.seed,
+        }
     }
 }
 
-// Q of 16 bits: 0, as large as P on either side of 0, or between.
-fn draw_reactive(dice: &mut [u64], active: u64) -> u64 {
-    let kind = roll(dice, 7);
-    let far = roll(dice, plus(active, 1));
+// Q of 16 bits by its kind: 0, as large as P on either side of 0, or between.
+fn reactive(kind: u64, active: u64, far: u64) -> u64 {
     if kind == 0 {
         0
     } else if kind == 1 {
@@ -189,51 +185,68 @@ fn draw_reactive(dice: &mut [u64], active: u64) -> u64 {
     }
 }
 
-// Whether the present load is a twin of the one before, if there is one.
-fn is_twin(dice: &[u64]) -> bool {
-    at(dice, 1) < 2
+fn draw_reactive(seed: u64, active: u64) -> Drawn {
+    let kind = roll(seed, 7);
+    let far = roll(kind.seed, plus(active, 1));
+    Drawn {
+        number: reactive(kind.number, active, far.number),
+        seed: far.seed,
+    }
+}
+
+// Whether a load is a twin of the one before.
+fn is_twin(book: &[u64], load: u64) -> bool {
+    load > 0 && fields::way(book, load) < 2
 }
 
 // The number of the load before that stands where this one does.
 fn before(book: &[u64], i: u64) -> u64 {
-    at(book, minus(plus(8, i), fields::LOAD))
+    at(book, minus(plus(7, i), fields::LOAD))
 }
 
 // Which number of its option this one is: 0 its worth, then P and Q of each slot.
 fn field(i: u64) -> u64 {
-    rest(minus(rest(i, fields::LOAD), 1), fields::OPTION)
+    rest(minus(rest(i, fields::LOAD), 2), fields::OPTION)
 }
 
-// A load's o.
-fn draw_first(dice: &mut [u64], book: &[u64], i: u64) -> u64 {
-    let o = draw_options(dice, book);
-    if i > 0 && is_twin(dice) {
-        before(book, i)
+// A load's o; that of a twin is drawn too, and then given up.
+fn draw_first(seed: u64, book: &[u64], i: u64) -> Drawn {
+    let o = draw_options(seed, fields::loads(book));
+    if is_twin(book, over(i, fields::LOAD)) {
+        Drawn {
+            number: before(book, i),
+            seed: o.seed,
+        }
     } else {
         o
     }
 }
 
 // Worth, P or Q of an option.
-fn draw_field(dice: &mut [u64], book: &[u64], i: u64) -> u64 {
+fn draw_field(seed: u64, book: &[u64], i: u64) -> Drawn {
     let n = field(i);
     if n == 0 {
-        draw_worth(dice)
+        draw_worth(seed)
     } else if rest(n, 2) == 1 {
-        draw_active(dice, book, over(minus(n, 1), 2))
+        draw_active(seed, book, over(minus(n, 1), 2))
     } else {
-        draw_reactive(dice, at(book, plus(7, i)))
+        draw_reactive(seed, at(book, plus(6, i)))
     }
 }
 
-// A load's number: its o comes first, then worth, P and Q of each option.
-fn draw_number(dice: &mut [u64], book: &[u64], i: u64) -> u64 {
-    if rest(i, fields::LOAD) == 0 {
-        draw_first(dice, book, i)
-    } else if i > fields::LOAD && is_twin(dice) {
-        twin_number(before(book, i), at(dice, 1), field(i))
+// A number of a load: how it is drawn, its o, then worth, P and Q of each option.
+fn draw_number(seed: u64, book: &[u64], i: u64) -> Drawn {
+    let load = over(i, fields::LOAD);
+    let place = rest(i, fields::LOAD);
+    if place == 0 {
+        roll(seed, 6)
+    } else if place == 1 {
+        draw_first(seed, book, i)
+    } else if is_twin(book, load) {
+        let number = twin_number(before(book, i), fields::way(book, load), field(i));
+        Drawn { number, seed }
     } else {
-        draw_field(dice, book, i)
+        draw_field(seed, book, i)
     }
 }
 
@@ -247,63 +260,31 @@ fn turned_about(q: u64) -> u64 {
 }
 
 // The number of a twin: as that of the load before, or with Q turned about so that the two cancel.
-fn twin_number(before: u64, turned: u64, field: u64) -> u64 {
-    if turned == 0 || field == 0 || rest(field, 2) == 1 {
+fn twin_number(before: u64, way: u64, field: u64) -> u64 {
+    if way == 0 || field == 0 || rest(field, 2) == 1 {
         before
     } else {
         turned_about(before)
     }
 }
 
-// Counts a load by its o, and where it is a twin by how.
-fn count_load(tally: &mut [u64], o: u64, twin: u64, follows: bool) {
-    count(tally, plus(kinds::LOADS, o), true);
-    count(tally, plus(kinds::TWINS, twin), follows && twin < 2);
+fn draw_place(seed: u64, book: &mut [u64], i: u64) -> u64 {
+    let n = draw_number(seed, book, i);
+    put(book, plus(7, i), n.number);
+    n.seed
 }
 
-// Counts a number by kind, where the book uses it.
-fn count_number(tally: &mut [u64], dice: &[u64], book: &[u64], i: u64) {
-    let load = over(i, fields::LOAD);
-    let place = rest(i, fields::LOAD);
-    if load >= fields::loads(book) {} else if place == 0 {
-        count_load(tally, at(book, plus(8, i)), at(dice, 1), i > 0);
-    } else if is_reactive(book, load, minus(place, 1)) {
-        count_reactive(tally, at(book, plus(8, i)), at(book, plus(7, i)));
+fn draw_loads(seed: u64, book: &mut [u64]) -> u64 {
+    let mut next = seed;
+    for i in 0..290 {
+        next = draw_place(next, book, i);
     }
-}
-
-// Whether the number at a place of a load's line is a Q that the book uses.
-fn is_reactive(book: &[u64], load: u64, place: u64) -> bool {
-    let field = rest(place, fields::OPTION);
-    over(place, fields::OPTION) < fields::options(book, load)
-        && field > 0
-        && field <= times(2, fields::slots(book))
-        && rest(field, 2) == 0
-}
-
-fn count_reactive(tally: &mut [u64], q: u64, active: u64) {
-    let far = plus(fields::above(q), fields::below(q));
-    count(tally, kinds::PAIRS, true);
-    count(tally, kinds::BELOW_ZERO, fields::below(q) > 0);
-    count(tally, kinds::AS_LARGE, active > 0 && far == active);
-}
-
-fn draw_place(dice: &mut [u64], tally: &mut [u64], book: &mut [u64], i: u64) {
-    let n = draw_number(dice, book, i);
-    put(book, plus(8, i), n);
-    count_number(tally, dice, book, i);
-}
-
-fn draw_loads(dice: &mut [u64], tally: &mut [u64], book: &mut [u64]) {
-    for i in 0..280 {
-        draw_place(dice, tally, book, i);
-    }
+    next
 }
 
 // The book of a turn.
-pub fn draw_book(dice: &mut [u64], tally: &mut [u64], book: &mut [u64], turn: u64) {
-    draw_header(dice, book, turn);
-    draw_slots(dice, book);
-    count_header(tally, book);
-    draw_loads(dice, tally, book);
+pub fn draw_book(seed: u64, book: &mut [u64], turn: u64) -> u64 {
+    let header = draw_header(seed, book, turn);
+    let slots = draw_slots(header, book);
+    draw_loads(slots, book)
 }

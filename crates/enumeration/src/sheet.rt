@@ -1,5 +1,6 @@
 // A choice's sheet as text, as it is or changed. Each function that writes does so from a place on and gives the place after.
 use crate::enumerate;
+use plain::Drawn;
 use plain::byte_at;
 use plain::minus;
 use plain::plus;
@@ -8,6 +9,7 @@ use plain::put_end;
 use plain::put_number;
 use plain::rest;
 use plain::roll;
+use plain::roll_from;
 use plain::times;
 
 // The levels of a choice, two digits a load.
@@ -58,62 +60,85 @@ fn end_or(trials: u64, some: u64) -> u64 {
     }
 }
 
-fn draw_trials(dice: &mut [u64]) -> u64 {
-    let some = roll(dice, 65537);
-    end_or(times(some, roll(dice, 65536)), some)
+fn draw_trials(seed: u64) -> Drawn {
+    let some = roll(seed, 65537);
+    let other = roll(some.seed, 65536);
+    Drawn {
+        number: end_or(times(some.number, other.number), some.number),
+        seed: other.seed,
+    }
 }
 
-// A byte that a sheet may have, or not.
-fn draw_byte(dice: &mut [u64]) -> u8 {
-    byte_at(b"0123456789ABCDEFa \n\0", roll(dice, 20))
-}
-
-fn change_byte(dice: &mut [u64], sheet: &mut [u8], bytes: u64) {
-    let place = roll(dice, bytes);
-    put_byte(sheet, place, draw_byte(dice));
+// A byte becomes some byte that a sheet may have, or not.
+fn change_byte(sheet: &mut [u8], bytes: u64, seed: u64) -> u64 {
+    let place = roll(seed, bytes);
+    let kind = roll(place.seed, 20);
+    let byte = byte_at(b"0123456789ABCDEFa \n\0", kind.number);
+    put_byte(sheet, place.number, byte);
+    kind.seed
 }
 
 // Some load's level becomes another, or the same.
-fn change_level(dice: &mut [u64], sheet: &mut [u8], loads: u64) {
-    let load = roll(dice, loads);
-    put_number(sheet, plus(18, times(2, load)), 2, roll(dice, 5));
+fn change_level(sheet: &mut [u8], loads: u64, seed: u64) -> u64 {
+    let load = roll(seed, loads);
+    let level = roll(load.seed, 5);
+    put_number(sheet, plus(18, times(2, load.number)), 2, level.number);
+    level.seed
 }
 
-fn add_byte(dice: &mut [u64], sheet: &mut [u8], bytes: u64) {
-    put_byte(sheet, bytes, byte_at(b"0\n", roll(dice, 2)));
+fn take_off(bytes: u64, seed: u64) -> Drawn {
+    let off = roll_from(seed, 1, bytes);
+    Drawn {
+        number: minus(bytes, off.number),
+        seed: off.seed,
+    }
 }
 
-// Changes the sheet's length, by the kind of change. Gives the new one.
-fn change_length(dice: &mut [u64], sheet: &mut [u8], bytes: u64, kind: u64) -> u64 {
+fn add_byte(sheet: &mut [u8], bytes: u64, seed: u64) -> Drawn {
+    let kind = roll(seed, 2);
+    put_byte(sheet, bytes, byte_at(b"0\n", kind.number));
+    Drawn {
+        number: plus(bytes, 1),
+        seed: kind.seed,
+    }
+}
+
+// Changes the length of a sheet, by the kind of change, and gives the new one.
+fn change_length(sheet: &mut [u8], bytes: u64, seed: u64, kind: u64) -> Drawn {
     if kind == 3 {
-        minus(bytes, plus(1, roll(dice, bytes)))
+        take_off(bytes, seed)
     } else if kind == 4 {
-        add_byte(dice, sheet, bytes);
-        plus(bytes, 1)
+        add_byte(sheet, bytes, seed)
     } else {
-        bytes
+        Drawn {
+            number: bytes,
+            seed,
+        }
     }
 }
 
-// Changes a sheet of so many bytes, by the kind of change. Gives its length.
-fn change_sheet(dice: &mut [u64], sheet: &mut [u8], loads: u64, bytes: u64, kind: u64) -> u64 {
+// Changes a sheet of so many bytes, by the kind of change, and gives its length.
+fn change_sheet(sheet: &mut [u8], loads: u64, bytes: u64, seed: u64, kind: u64) -> Drawn {
     if kind == 1 {
-        change_byte(dice, sheet, bytes);
-        bytes
+        Drawn {
+            number: bytes,
+            seed: change_byte(sheet, bytes, seed),
+        }
     } else if kind == 2 {
-        change_level(dice, sheet, loads);
-        bytes
+        Drawn {
+            number: bytes,
+            seed: change_level(sheet, loads, seed),
+        }
     } else {
-        change_length(dice, sheet, bytes, kind)
+        change_length(sheet, bytes, seed, kind)
     }
 }
 
-// A sheet of some choice and some trials, as it is, or with a byte changed, a level changed, bytes taken off or one added. Gives its
-// length.
-pub fn draw_sheet(dice: &mut [u64], sheet: &mut [u8], book: &[u64], kind: u64) -> u64 {
+// A sheet of some choice and some trials, as it is, or with a byte or a level changed, bytes taken off or one added. Gives its length.
+pub fn draw_sheet(seed: u64, sheet: &mut [u8], book: &[u64], kind: u64) -> Drawn {
     let loads = fields::loads(book);
-    let choice = roll(dice, enumerate::choices(book, loads));
-    let trials = draw_trials(dice);
-    let bytes = put_sheet(sheet, book, choice, trials);
-    change_sheet(dice, sheet, loads, bytes, kind)
+    let choice = roll(seed, enumerate::choices(book, loads));
+    let trials = draw_trials(choice.seed);
+    let bytes = put_sheet(sheet, book, choice.number, trials.number);
+    change_sheet(sheet, loads, bytes, trials.seed, kind)
 }

@@ -1,5 +1,6 @@
-// A book as the bench holds it, and as text (`text`). Its numbers are in one slice: T, N, d, the budget and four limits come first, then
-// 28 numbers for each load: o, and for each of three options its worth and, for each of four slots, P and Q, Q as 16 bits.
+// A book as the bench holds it, and as text (`text`). Its numbers are in one slice: T, N, d and four limits come first, then 29
+// numbers for each load: how it was drawn, o, and for each of three options its worth and, for each of four slots, P and Q, Q as 16
+// bits. The budget stands beside it.
 use plain::at;
 use plain::greater;
 use plain::minus;
@@ -15,7 +16,7 @@ pub use text::put_header;
 pub use text::put_load;
 
 // Numbers of a load, and those of an option.
-pub const LOAD: u64 = 28;
+pub const LOAD: u64 = 29;
 
 pub const OPTION: u64 = 9;
 
@@ -31,12 +32,13 @@ pub fn fineness(book: &[u64]) -> u64 {
     at(book, 2)
 }
 
-fn budget(book: &[u64]) -> u64 {
-    at(book, 3)
+pub fn limit(book: &[u64], slot: u64) -> u64 {
+    at(book, plus(3, slot))
 }
 
-pub fn limit(book: &[u64], slot: u64) -> u64 {
-    at(book, plus(4, slot))
+// How a load was drawn: 0 as the one before again, 1 with that one's Q turned about, else by itself.
+pub fn way(book: &[u64], load: u64) -> u64 {
+    at(book, plus(7, times(load, LOAD)))
 }
 
 pub fn options(book: &[u64], load: u64) -> u64 {

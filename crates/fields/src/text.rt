@@ -1,6 +1,5 @@
 // A book as text. Each function writes from a place on and gives the place after.
 use crate::OPTION;
-use crate::budget;
 use crate::fineness;
 use crate::limit;
 use crate::loads;
@@ -31,10 +30,10 @@ fn put_counts(text: &mut [u8], book: &[u64]) -> u64 {
 }
 
 // The header without its end.
-pub fn put_header(text: &mut [u8], book: &[u64]) -> u64 {
+pub fn put_header(text: &mut [u8], book: &[u64], budget: u64) -> u64 {
     let mut end = put_counts(text, book);
     end = put_number(text, end, 2, fineness(book));
-    end = put_number(text, end, 8, budget(book));
+    end = put_number(text, end, 8, budget);
     put_limits(text, end, book)
 }
 
@@ -61,8 +60,8 @@ fn put_load_line(text: &mut [u8], start: u64, book: &[u64], load: u64) -> u64 {
     put_end(text, end)
 }
 
-pub fn put_book(text: &mut [u8], book: &[u64]) -> u64 {
-    let header = put_header(text, book);
+pub fn put_book(text: &mut [u8], book: &[u64], budget: u64) -> u64 {
+    let header = put_header(text, book, budget);
     let mut end = put_end(text, header);
     for load in 0..loads(book) {
         end = put_load_line(text, end, book, load);

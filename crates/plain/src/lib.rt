@@ -72,11 +72,28 @@ pub fn put_byte(bytes: &mut [u8], i: u64, byte: u8) {
     }
 }
 
-// A number drawn from 0 to n - 1, by multiplying modulo 2^31 - 1. `dice` begins with the seed's present number.
-pub fn roll(dice: &mut [u64], n: u64) -> u64 {
-    let next = rest(times(at(dice, 0), 48271), 2147483647);
-    put(dice, 0, next);
-    rest(over(next, 16), n)
+// A drawn number, and the seed after it.
+pub struct Drawn {
+    pub number: u64,
+    pub seed: u64,
+}
+
+// A number from 0 to n - 1, by multiplying the seed modulo 2^31 - 1.
+pub fn roll(seed: u64, n: u64) -> Drawn {
+    let next = rest(times(seed, 48271), 2147483647);
+    Drawn {
+        number: rest(over(next, 16), n),
+        seed: next,
+    }
+}
+
+// One of n numbers, from the least on.
+pub fn roll_from(seed: u64, least: u64, n: u64) -> Drawn {
+    let more = roll(seed, n);
+    Drawn {
+        number: plus(least, more.number),
+        seed: more.seed,
+    }
 }
 
 // The last hexadecimal digit of a number, before a place; gives what is left of the number.

@@ -7,10 +7,10 @@ use Rattle.draws.proofs.draw_slots.Statement.{statement}
 use Rattle.draws.proofs.draw_slots.Tie as tie
 
 abbrev Inv-loop : tie.InvT-loop
-Inv-loop dice₀ book₀ slot₀ slot-end dice book slot = (length dice ≡ length dice₀) × (length book ≡ length book₀)
+Inv-loop seed book₀ next₀ slot₀ slot-end book next slot = (length book ≡ length book₀)
 
 abbrev μ-loop : tie.MeasureT-loop
-μ-loop dice₀ book₀ slot₀ slot-end dice book slot = slot-end - slot
+μ-loop seed book₀ next₀ slot₀ slot-end book next slot = slot-end - slot
 
 slots-requires : tie.Need-slots-requires Inv-loop μ-loop
 slots-requires c κs = search needs
@@ -33,11 +33,8 @@ loop-again c = search needs
 same-length : tie.Need-same-length Inv-loop μ-loop
 same-length c = search needs
 
-same-length-2 : tie.Need-same-length-2 Inv-loop μ-loop
-same-length-2 c = search needs
-
 returns : tie.Need-returns Inv-loop μ-loop
 returns c = search needs
 
 pub draw-slots-spec : {M : Type 1} → statement M
-draw-slots-spec = tie.close (tie.spec Inv-loop μ-loop slots-requires loop-holds draw-slot-requires add-slot loop-less loop-again same-length same-length-2 returns)
+draw-slots-spec = tie.close (tie.spec Inv-loop μ-loop slots-requires loop-holds draw-slot-requires add-slot loop-less loop-again same-length returns)

@@ -7,10 +7,10 @@ use Rattle.bench.proofs.plans.compare_cases.Statement.{statement}
 use Rattle.bench.proofs.plans.compare_cases.Tie as tie
 
 abbrev Inv-loop : tie.InvT-loop
-Inv-loop tally₀ book₀ work₀ found sheet case₀ tally book work case = (length tally ≡ length tally₀) × (length book ≡ length book₀) × (length work ≡ length work₀)
+Inv-loop tally₀ book work₀ found sheet case₀ tally work case = (length tally ≡ length tally₀) × (length work ≡ length work₀)
 
 abbrev μ-loop : tie.MeasureT-loop
-μ-loop tally₀ book₀ work₀ found sheet case₀ tally book work case = 9 - case
+μ-loop tally₀ book work₀ found sheet case₀ tally work case = 9 - case
 
 loop-holds : tie.Need-loop-holds Inv-loop μ-loop
 loop-holds c = search needs
@@ -33,11 +33,8 @@ same-length c = search needs
 same-length-2 : tie.Need-same-length-2 Inv-loop μ-loop
 same-length-2 c = search needs
 
-same-length-3 : tie.Need-same-length-3 Inv-loop μ-loop
-same-length-3 c = search needs
-
 returns : tie.Need-returns Inv-loop μ-loop
 returns c = search needs
 
 pub compare-cases-spec : {M : Type 1} → statement M
-compare-cases-spec = tie.close (tie.spec Inv-loop μ-loop loop-holds compare-case-requires add-case loop-less loop-again same-length same-length-2 same-length-3 returns)
+compare-cases-spec = tie.close (tie.spec Inv-loop μ-loop loop-holds compare-case-requires add-case loop-less loop-again same-length same-length-2 returns)

@@ -7,10 +7,10 @@ use Rattle.bench.proofs.readings.compare_readings.Statement.{statement}
 use Rattle.bench.proofs.readings.compare_readings.Tie as tie
 
 abbrev Inv-loop : tie.InvT-loop
-Inv-loop dice₀ tally₀ book kind₀ dice tally kind = (length dice ≡ length dice₀) × (length tally ≡ length tally₀)
+Inv-loop seed tally₀ book next₀ kind₀ tally next kind = (length tally ≡ length tally₀)
 
 abbrev μ-loop : tie.MeasureT-loop
-μ-loop dice₀ tally₀ book kind₀ dice tally kind = 5 - kind
+μ-loop seed tally₀ book next₀ kind₀ tally next kind = 5 - kind
 
 loop-holds : tie.Need-loop-holds Inv-loop μ-loop
 loop-holds c = search needs
@@ -30,11 +30,8 @@ loop-again c = search needs
 same-length : tie.Need-same-length Inv-loop μ-loop
 same-length c = search needs
 
-same-length-2 : tie.Need-same-length-2 Inv-loop μ-loop
-same-length-2 c = search needs
-
 returns : tie.Need-returns Inv-loop μ-loop
 returns c = search needs
 
 pub compare-readings-spec : {M : Type 1} → statement M
-compare-readings-spec = tie.close (tie.spec Inv-loop μ-loop loop-holds compare-drawn-requires add-kind loop-less loop-again same-length same-length-2 returns)
+compare-readings-spec = tie.close (tie.spec Inv-loop μ-loop loop-holds compare-drawn-requires add-kind loop-less loop-again same-length returns)

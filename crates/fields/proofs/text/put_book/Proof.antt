@@ -7,10 +7,10 @@ use Rattle.fields.proofs.text.put_book.Statement.{statement}
 use Rattle.fields.proofs.text.put_book.Tie as tie
 
 abbrev Inv-loop : tie.InvT-loop
-Inv-loop text₀ book header end₀ load₀ load-end text end load = (length text ≡ length text₀)
+Inv-loop text₀ book budget header end₀ load₀ load-end text end load = (length text ≡ length text₀)
 
 abbrev μ-loop : tie.MeasureT-loop
-μ-loop text₀ book header end₀ load₀ load-end text end load = load-end - load
+μ-loop text₀ book budget header end₀ load₀ load-end text end load = load-end - load
 
 put-header-requires : tie.Need-put-header-requires Inv-loop μ-loop
 put-header-requires c κs = search needs

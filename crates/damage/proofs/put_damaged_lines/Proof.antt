@@ -1,16 +1,16 @@
--- `damage::put_damaged` is safe and ends. Invariant: what is lent for change keeps its length. Assumes nothing.
+-- `damage::put_damaged_lines` is safe and ends. Invariant: what is lent for change keeps its length. Assumes nothing.
 use Prim.Native.Nat.{_-_}
 use mathlib.Core.Path.{_≡_}
 use lib.ListN.{length}
 use borrow.Author.Needs.{needs}
-use Rattle.damage.proofs.put_damaged.Statement.{statement}
-use Rattle.damage.proofs.put_damaged.Tie as tie
+use Rattle.damage.proofs.put_damaged_lines.Statement.{statement}
+use Rattle.damage.proofs.put_damaged_lines.Tie as tie
 
 abbrev Inv-loop : tie.InvT-loop
-Inv-loop text₀ dice₀ book faults unterminated end₀ line₀ line-end text dice end line = (length text ≡ length text₀) × (length dice ≡ length dice₀)
+Inv-loop text₀ book faults last end₀ n₀ n-end text end n = (length text ≡ length text₀)
 
 abbrev μ-loop : tie.MeasureT-loop
-μ-loop text₀ dice₀ book faults unterminated end₀ line₀ line-end text dice end line = line-end - line
+μ-loop text₀ book faults last end₀ n₀ n-end text end n = n-end - n
 
 unterminated-line-requires : tie.Need-unterminated-line-requires Inv-loop μ-loop
 unterminated-line-requires c κs = search needs
@@ -33,8 +33,8 @@ loop-holds c = search needs
 put-damaged-line-requires : tie.Need-put-damaged-line-requires Inv-loop μ-loop
 put-damaged-line-requires c κs = search needs
 
-add-line : tie.Need-add-line Inv-loop μ-loop
-add-line c = search needs
+add-n : tie.Need-add-n Inv-loop μ-loop
+add-n c = search needs
 
 loop-less : tie.Need-loop-less Inv-loop μ-loop
 loop-less c = search needs
@@ -42,17 +42,11 @@ loop-less c = search needs
 loop-again : tie.Need-loop-again Inv-loop μ-loop
 loop-again c = search needs
 
-put-trailing-requires : tie.Need-put-trailing-requires Inv-loop μ-loop
-put-trailing-requires c κs = search needs
-
 same-length : tie.Need-same-length Inv-loop μ-loop
 same-length c = search needs
-
-same-length-2 : tie.Need-same-length-2 Inv-loop μ-loop
-same-length-2 c = search needs
 
 returns : tie.Need-returns Inv-loop μ-loop
 returns c = search needs
 
-pub put-damaged-spec : {M : Type 1} → statement M
-put-damaged-spec = tie.close (tie.spec Inv-loop μ-loop unterminated-line-requires loads-requires plus-requires lesser-requires plus-requires-2 loop-holds put-damaged-line-requires add-line loop-less loop-again put-trailing-requires same-length same-length-2 returns)
+pub put-damaged-lines-spec : {M : Type 1} → statement M
+put-damaged-lines-spec = tie.close (tie.spec Inv-loop μ-loop unterminated-line-requires loads-requires plus-requires lesser-requires plus-requires-2 loop-holds put-damaged-line-requires add-n loop-less loop-again same-length returns)

@@ -1,10 +1,10 @@
--- `draws::count_slots` is safe and ends. Invariant: what is lent for change keeps its length. Assumes nothing.
+-- `draws::count::count_slots` is safe and ends. Invariant: what is lent for change keeps its length. Assumes nothing.
 use Prim.Native.Nat.{_-_}
 use mathlib.Core.Path.{_≡_}
 use lib.ListN.{length}
 use borrow.Author.Needs.{needs}
-use Rattle.draws.proofs.count_slots.Statement.{statement}
-use Rattle.draws.proofs.count_slots.Tie as tie
+use Rattle.draws.proofs.count.count_slots.Statement.{statement}
+use Rattle.draws.proofs.count.count_slots.Tie as tie
 
 abbrev Inv-loop : tie.InvT-loop
 Inv-loop tally₀ book slot₀ slot-end tally slot = (length tally ≡ length tally₀)
