@@ -1,9 +1,10 @@
 // The planner and the quick planner against the enumeration, on books as they are drawn.
 use comparison::Lent;
 use comparison::Wanted;
-use comparison::compare_plan;
 use comparison::compare_quick;
+use comparison::plan_agrees;
 use comparison::refusal;
+use comparison::settle;
 use comparison::success;
 use fields::put_book;
 use plain::both;
@@ -77,6 +78,21 @@ fn lent_in(case: u64, found: Found, most: u64) -> Lent {
     }
 }
 
+// Whether the planner does what is wanted with a book at a budget.
+fn agrees_at(
+    book: &[u64],
+    budget: u64,
+    work: &mut [u64],
+    lent: Lent,
+    wanted: Wanted,
+    sheet: &[u8],
+    used: u64,
+) -> bool {
+    let mut given = [0u8; 1024];
+    let length = put_book(&mut given, book, budget);
+    plan_agrees(&given, length, work, lent, wanted, sheet, used)
+}
+
 fn compare_case(
     tally: &mut [u64],
     book: &[u64],
@@ -89,9 +105,8 @@ fn compare_case(
     let budget = budget_in(case, done.trials);
     let lent = lent_in(case, found, work.len() as u64);
     let wanted = wanted_plan(found, lent, budget);
-    let mut given = [0u8; 1024];
-    let length = put_book(&mut given, book, budget);
-    compare_plan(tally, &given, length, work, lent, wanted, sheet, found.need);
+    let same = agrees_at(book, budget, work, lent, wanted, sheet, found.need);
+    settle(tally, kinds::PLANNER, wanted, same);
 }
 
 fn compare_cases(tally: &mut [u64], book: &[u64], work: &mut [u64], found: Found, sheet: &[u8]) {

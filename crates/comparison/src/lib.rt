@@ -60,7 +60,7 @@ fn marked(work: &[u64], first: u64, end: u64) -> bool {
 }
 
 // Counts a comparison under the number that was wanted.
-fn settle(tally: &mut [u64], call: u64, wanted: Wanted, same: bool) {
+pub fn settle(tally: &mut [u64], call: u64, wanted: Wanted, same: bool) {
     count(tally, plus(call, wanted.number), true);
     count(tally, kinds::COMPARED, true);
     count(tally, kinds::DIFFER, !same);
@@ -165,8 +165,8 @@ fn first_free(wanted: Wanted, used: u64) -> u64 {
     }
 }
 
-// Whether the planner answers what is wanted, with the sheet in the buffer, and keeps the free words.
-fn plans_as_wanted(
+// Whether the planner answers what is wanted and keeps the words from one on.
+fn keeps_from(
     book: &[u8],
     length: u64,
     work: &mut [u64],
@@ -183,9 +183,9 @@ fn plans_as_wanted(
         && same_buffer(&buffer, sheet, wanted)
 }
 
-// The planner's answer against the wanted one; `sheet` is what the buffer is to hold where that is no refusal.
-pub fn compare_plan(
-    tally: &mut [u64],
+// Whether the planner does what is wanted; `sheet` is what the buffer is to hold where that is no refusal, and `used` the words that the
+// planner may change.
+pub fn plan_agrees(
     book: &[u8],
     length: u64,
     work: &mut [u64],
@@ -193,10 +193,9 @@ pub fn compare_plan(
     wanted: Wanted,
     sheet: &[u8],
     used: u64,
-) {
+) -> bool {
     let free = first_free(wanted, used);
-    let same = plans_as_wanted(book, length, work, lent, wanted, sheet, free);
-    settle(tally, kinds::PLANNER, wanted, same);
+    keeps_from(book, length, work, lent, wanted, sheet, free)
 }
 
 // The buffer holds the wanted bytes of the sheet and is as it was after them.
