@@ -143,20 +143,24 @@ fn find_quick(book: &[u64], sheet: &mut [u8]) -> Wanted {
     success(bytes, enumeration::worth(book, choice), loads)
 }
 
-// The quick planner with the buffer at the need and one less, at a budget of 0.
-pub fn compare_quicks(tally: &mut [u64], book: &[u64]) {
-    let mut sheet = [0u8; 192];
-    let wanted = find_quick(book, &mut sheet);
+// The quick planner with the buffer at the need and one less, on a book at a budget of 0.
+fn compare_rooms(tally: &mut [u64], book: &[u64], wanted: Wanted, sheet: &[u8]) {
     let bytes = wanted.bytes;
     let mut given = [0u8; 1024];
     let length = put_book(&mut given, book, 0);
-    compare_quick(tally, &given, length, bytes, wanted, &sheet);
+    compare_quick(tally, &given, length, bytes, wanted, sheet);
     compare_quick(
         tally,
         &given,
         length,
         minus(bytes, 1),
         refusal(11, 0),
-        &sheet,
+        sheet,
     );
+}
+
+pub fn compare_quicks(tally: &mut [u64], book: &[u64]) {
+    let mut sheet = [0u8; 192];
+    let wanted = find_quick(book, &mut sheet);
+    compare_rooms(tally, book, wanted, &sheet);
 }

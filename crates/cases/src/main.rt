@@ -2,8 +2,6 @@
 // reached: 1 to 8 with its line, and 9 to 13. The stored output is what document 01 says.
 use libc::STDOUT_FILENO;
 use model::Answer;
-ghost use mathlib.Core.Path.{_≡_};
-ghost use lib.ListN.{length};
 
 fn print(text: &[u8]) {
     io::write_all(STDOUT_FILENO, text);
@@ -84,27 +82,15 @@ fn invalid_books() {
     refused_case(b"trailing", b"01010101000000640064\n020100010004FFFC\n\n");
 }
 
-// The words that the example needs, with something in them.
-fn enough() -> [u64; 1056]
-    ensures { λ r. ⌜ 1056 ≡ length r ⌝ }
-{
-    [77; 1056]
-}
-
-// One word less.
-fn work_too_small() -> [u64; 1055]
-    ensures { λ r. ⌜ 1055 ≡ length r ⌝ }
-{
-    [77; 1055]
-}
-
+// The planner with the words that the example needs, with something in them.
 fn plan_with_enough(name: &[u8], book: &[u8], sheet: &mut [u8]) {
-    let mut work = enough();
+    let mut work = [77u64; 1056];
     plan_case(name, book, &mut work, sheet);
 }
 
+// The planner with one word less.
 fn plan_with_less(name: &[u8], book: &[u8], sheet: &mut [u8]) {
-    let mut work = work_too_small();
+    let mut work = [77u64; 1055];
     plan_case(name, book, &mut work, sheet);
 }
 

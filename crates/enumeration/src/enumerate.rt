@@ -10,8 +10,6 @@ use plain::plus;
 use plain::put;
 use plain::rest;
 use plain::times;
-ghost use mathlib.Core.Path.{_≡_};
-ghost use lib.ListN.{length};
 
 // The number of choices of the first loads.
 pub fn choices(book: &[u64], first: u64) -> u64 {
@@ -281,15 +279,9 @@ fn all_tries(book: &[u64], lists: &[u64]) -> u64 {
     n
 }
 
-// Room for the lists of up to 1,024 choices.
-fn no_lists() -> [u64; 5120]
-    ensures { λ r. ⌜ 5120 ≡ length r ⌝ }
-{
-    [0; 5120]
-}
-
 pub fn trials(book: &[u64]) -> u64 {
-    let mut lists = no_lists();
+    // the lists of up to 1,024 choices
+    let mut lists = [0u64; 5120];
     put_lists(&mut lists, book);
     all_tries(book, &lists)
 }
