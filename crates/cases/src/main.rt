@@ -2,8 +2,6 @@
 // reached: 1 to 8 with its line, and 9 to 13. The stored output is what document 01 says.
 use libc::STDOUT_FILENO;
 use model::Answer;
-ghost use mathlib.Core.Path.{_≡_};
-ghost use lib.ListN.{length};
 
 fn print(text: &[u8]) {
     io::write_all(STDOUT_FILENO, text);
@@ -51,162 +49,170 @@ fn reader_case(name: &[u8], book: &[u8], sheet: &[u8]) {
     print(b"\n");
 }
 
-// Books that are refused; the buffer stays as it is.
-fn refused_books() {
+// A book that the quick planner refuses; the buffer stays as it is.
+fn refused_case(name: &[u8], book: &[u8]) {
     let mut sheet = [46u8; 60];
-    quick_case(b"torn, empty", b"", &mut sheet);
-    quick_case(
+    quick_case(name, book, &mut sheet);
+}
+
+// Refusals 1 to 3.
+fn unreadable_books() {
+    refused_case(b"torn, empty", b"");
+    refused_case(
         b"torn, load line",
         b"010102010000006400FF\n0201000300630000\n0201000300630000",
-        &mut sheet,
     );
-    quick_case(b"smudged", b"0101020100000064006g\n", &mut sheet);
-    quick_case(b"stray, empty line", b"\n", &mut sheet);
-    quick_case(
-        b"stray, kind",
-        b"010101010000006400FF\n0301000300630000\n",
-        &mut sheet,
-    );
-    quick_case(
-        b"crowded, T",
-        b"0105010100000064000A000A000A000A000A\n",
-        &mut sheet,
-    );
-    quick_case(
-        b"crowded, o",
-        b"010101010000006400FF\n0204000300630000\n",
-        &mut sheet,
-    );
-    quick_case(
-        b"misshapen",
-        b"010101010000006400FF\n020100030063000\n",
-        &mut sheet,
-    );
-    quick_case(b"beyond, N", b"01011901000000640064\n", &mut sheet);
-    quick_case(b"beyond, d", b"01010141000000640064\n", &mut sheet);
-    quick_case(
-        b"slack",
-        b"01010101000000640064\n020100010004FFFB\n",
-        &mut sheet,
-    );
-    quick_case(
-        b"trailing",
-        b"01010101000000640064\n020100010004FFFC\n\n",
-        &mut sheet,
-    );
+    refused_case(b"smudged", b"0101020100000064006g\n");
+    refused_case(b"stray, empty line", b"\n");
+    refused_case(b"stray, kind", b"010101010000006400FF\n0301000300630000\n");
 }
 
-// The words that the example needs, with something in them.
-fn enough() -> [u64; 1056]
-    ensures { λ r. ⌜ 1056 ≡ length r ⌝ }
-{
-    [77; 1056]
+// Refusals 4 and 5.
+fn misshapen_books() {
+    refused_case(b"crowded, T", b"0105010100000064000A000A000A000A000A\n");
+    refused_case(b"crowded, o", b"010101010000006400FF\n0204000300630000\n");
+    refused_case(b"misshapen", b"010101010000006400FF\n020100030063000\n");
 }
 
-// One word less.
-fn work_too_small() -> [u64; 1055]
-    ensures { λ r. ⌜ 1055 ≡ length r ⌝ }
-{
-    [77; 1055]
+// Refusals 6 to 8.
+fn invalid_books() {
+    refused_case(b"beyond, N", b"01011901000000640064\n");
+    refused_case(b"beyond, d", b"01010141000000640064\n");
+    refused_case(b"slack", b"01010101000000640064\n020100010004FFFB\n");
+    refused_case(b"trailing", b"01010101000000640064\n020100010004FFFC\n\n");
+}
+
+// The planner with the words that the example needs, with something in them.
+fn plan_with_enough(name: &[u8], book: &[u8], sheet: &mut [u8]) {
+    let mut work = [77u64; 1056];
+    plan_case(name, book, &mut work, sheet);
+}
+
+// The planner with one word less.
+fn plan_with_less(name: &[u8], book: &[u8], sheet: &mut [u8]) {
+    let mut work = [77u64; 1055];
+    plan_case(name, book, &mut work, sheet);
+}
+
+// Too small a work area, and too small a buffer.
+fn plan_with_neither(name: &[u8], book: &[u8]) {
+    let mut short = [46u8; 47];
+    plan_with_less(name, book, &mut short);
 }
 
 // Books that the planner refuses, also with two faults: the first of 9 to 12 counts, and the buffer stays as it is.
 fn refused_plans() {
-    let book = b"0101030400000064000A\n0201000500050005\n020100050004FFFC\n0201000400040000\n";
-    let budget_exceeded =
-        b"010103040000000D000A\n0201000500050005\n020100050004FFFC\n0201000400040000\n";
-    let wide = b"0102014000000064FFFFFFFF\n020100010001000000010000\n";
-    let mut work = enough();
-    let mut less = work_too_small();
     let mut sheet = [46u8; 48];
+    plan_with_neither(b"torn", b"0101");
+    plan_with_neither(
+        b"oversize",
+        b"0102014000000064FFFFFFFF\n020100010001000000010000\n",
+    );
+    plan_with_less(
+        b"cramped",
+        b"0101030400000064000A\n0201000500050005\n020100050004FFFC\n0201000400040000\n",
+        &mut sheet,
+    );
+}
+
+// The same with a budget of one trial less than the example takes.
+fn refused_budgets() {
+    let book = b"010103040000000D000A\n0201000500050005\n020100050004FFFC\n0201000400040000\n";
     let mut short = [46u8; 47];
-    plan_case(b"torn", b"0101", &mut less, &mut short);
-    plan_case(b"oversize", wide, &mut less, &mut short);
-    plan_case(b"cramped", book, &mut less, &mut sheet);
-    plan_case(b"cramped, no sheet", budget_exceeded, &mut less, &mut short);
-    plan_case(b"no sheet, spent", budget_exceeded, &mut work, &mut short);
-    plan_case(b"spent", budget_exceeded, &mut work, &mut sheet);
+    let mut sheet = [46u8; 48];
+    plan_with_neither(b"cramped, no sheet", book);
+    plan_with_enough(b"no sheet, spent", book, &mut short);
+    plan_with_enough(b"spent", book, &mut sheet);
 }
 
 // Plans: document 01's example at its very budget, and loads that just fit, just do not, or draw nothing.
 fn plans() {
-    let mut work = enough();
     let mut sheet = [46u8; 60];
-    plan_case(
+    plan_with_enough(
         b"budget 14",
         b"010103040000000E000A\n0201000500050005\n020100050004FFFC\n0201000400040000\n",
-        &mut work,
         &mut sheet,
     );
-    plan_case(
+    plan_with_enough(
         b"both run",
         b"01010201000000640064\n0201000300630000\n0201000300630000\n",
-        &mut work,
         &mut sheet,
     );
-    plan_case(
+    plan_with_enough(
         b"the smaller code",
         b"01010201000000640064\n0201000300640000\n0201000300640000\n",
-        &mut work,
         &mut sheet,
     );
-    plan_case(
+    plan_with_enough(
         b"limit 0",
         b"01010201000000640000\n0201000100000000\n0201000100010000\n",
-        &mut work,
         &mut sheet,
     );
 }
 
-// Sheets that belong to the book, and sheets that do not.
-fn read_sheets() {
-    let book = b"0101030400000064000A\n0201000500050005\n020100050004FFFC\n0201000400040000\n";
+// The sheet reader on document 01's example and a sheet.
+fn example_case(name: &[u8], sheet: &[u8]) {
     reader_case(
-        b"quick sheet",
-        book,
-        b"040000000900000003000101\n0500000008FFFFFFFC000A\n",
+        name,
+        b"0101030400000064000A\n0201000500050005\n020100050004FFFC\n0201000400040000\n",
+        sheet,
     );
-    reader_case(
-        b"plan",
-        book,
-        b"040000000A0000000E010100\n050000000900000001000A\n",
-    );
-    reader_case(
-        b"foreign, c above o",
-        book,
-        b"040000000A0000000E020100\n050000000900000001000A\n",
-    );
-    reader_case(
-        b"foreign, sum",
-        book,
-        b"040000000A0000000E010100\n050000000800000001000A\n",
-    );
-    reader_case(
-        b"foreign, worth",
-        book,
-        b"040000000B0000000E010100\n050000000900000001000A\n",
-    );
-    reader_case(
-        b"foreign, short",
-        book,
-        b"040000000A0000000E010100\n050000000900000001000A",
-    );
-    reader_case(
-        b"foreign, long",
-        book,
-        b"040000000A0000000E010100\n050000000900000001000A\n\n",
-    );
-    reader_case(b"torn book", b"0101", b"");
 }
 
-fn main() {
+// Sheets that belong to the book.
+fn own_sheets() {
+    example_case(
+        b"quick sheet",
+        b"040000000900000003000101\n0500000008FFFFFFFC000A\n",
+    );
+    example_case(
+        b"plan",
+        b"040000000A0000000E010100\n050000000900000001000A\n",
+    );
+}
+
+// Sheets that do not.
+fn foreign_sheets() {
+    example_case(
+        b"foreign, c above o",
+        b"040000000A0000000E020100\n050000000900000001000A\n",
+    );
+    example_case(
+        b"foreign, sum",
+        b"040000000A0000000E010100\n050000000800000001000A\n",
+    );
+    example_case(
+        b"foreign, worth",
+        b"040000000B0000000E010100\n050000000900000001000A\n",
+    );
+    example_case(
+        b"foreign, short",
+        b"040000000A0000000E010100\n050000000900000001000A",
+    );
+    example_case(
+        b"foreign, long",
+        b"040000000A0000000E010100\n050000000900000001000A\n\n",
+    );
+}
+
+// The quick planner on document 01's example, with a buffer that is too small and with a larger one.
+fn quick_sheets() {
     let book = b"0101030400000064000A\n0201000500050005\n020100050004FFFC\n0201000400040000\n";
-    refused_books();
     let mut short = [46u8; 47];
     quick_case(b"no sheet", book, &mut short);
     let mut sheet = [46u8; 60];
     quick_case(b"example", book, &mut sheet);
-    read_sheets();
+}
+
+fn main() {
+    unreadable_books();
+    misshapen_books();
+    invalid_books();
+    quick_sheets();
+    own_sheets();
+    foreign_sheets();
+    reader_case(b"torn book", b"0101", b"");
     refused_plans();
+    refused_budgets();
     plans();
 }

@@ -7,10 +7,10 @@ use Rattle.bench.proofs.run.Statement.{statement}
 use Rattle.bench.proofs.run.Tie as tie
 
 abbrev Inv-loop : tie.InvT-loop
-Inv-loop dice₀ tally₀ book₀ lists₀ work₀ turn₀ dice tally book lists work turn = (length dice ≡ length dice₀) × (length tally ≡ length tally₀) × (length book ≡ length book₀) × (length lists ≡ length lists₀) × (length work ≡ length work₀)
+Inv-loop tally₀ work₀ seed₀ turn₀ tally work seed turn = (length tally ≡ length tally₀) × (length work ≡ length work₀)
 
 abbrev μ-loop : tie.MeasureT-loop
-μ-loop dice₀ tally₀ book₀ lists₀ work₀ turn₀ dice tally book lists work turn = 3000 - turn
+μ-loop tally₀ work₀ seed₀ turn₀ tally work seed turn = 3000 - turn
 
 loop-holds : tie.Need-loop-holds Inv-loop μ-loop
 loop-holds c = search needs
@@ -33,17 +33,8 @@ same-length c = search needs
 same-length-2 : tie.Need-same-length-2 Inv-loop μ-loop
 same-length-2 c = search needs
 
-same-length-3 : tie.Need-same-length-3 Inv-loop μ-loop
-same-length-3 c = search needs
-
-same-length-4 : tie.Need-same-length-4 Inv-loop μ-loop
-same-length-4 c = search needs
-
-same-length-5 : tie.Need-same-length-5 Inv-loop μ-loop
-same-length-5 c = search needs
-
 returns : tie.Need-returns Inv-loop μ-loop
 returns c = search needs
 
 pub run-spec : {M : Type 1} → statement M
-run-spec = tie.close (tie.spec Inv-loop μ-loop loop-holds run-turn-requires add-turn loop-less loop-again same-length same-length-2 same-length-3 same-length-4 same-length-5 returns)
+run-spec = tie.close (tie.spec Inv-loop μ-loop loop-holds run-turn-requires add-turn loop-less loop-again same-length same-length-2 returns)
