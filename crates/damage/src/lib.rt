@@ -108,7 +108,7 @@ fn put_drawn(text: &mut [u8], place: u64, drawn: Drawn) -> u64 {
     drawn.seed
 }
 
-// A range that begins with a number that is too large: 0, that number, or one from it on.
+// A T or an o out of its range: 0, the least that is too large, or one from it on.
 fn draw_range(seed: u64, least: u64) -> Drawn {
     let kind = roll(seed, 3);
     let more = roll(kind.seed, minus(256, least));
