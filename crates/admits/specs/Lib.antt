@@ -1,2 +1,2 @@
--- What the slots of a cell are.
+-- What the test of a cell asks.
 pub mod Admits

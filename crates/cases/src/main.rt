@@ -125,27 +125,33 @@ fn refused_budgets() {
     plan_with_enough(b"spent", book, &mut sheet);
 }
 
-// Plans: document 01's example at its very budget, and loads that just fit, just do not, or draw nothing.
+// Plans: document 01's example at its very budget, and loads that just fit, just do not, or draw nothing. Each finds the words as the one
+// before left them.
 fn plans() {
+    let mut work = [77u64; 1056];
     let mut sheet = [46u8; 60];
-    plan_with_enough(
+    plan_case(
         b"budget 14",
         b"010103040000000E000A\n0201000500050005\n020100050004FFFC\n0201000400040000\n",
+        &mut work,
         &mut sheet,
     );
-    plan_with_enough(
+    plan_case(
         b"both run",
         b"01010201000000640064\n0201000300630000\n0201000300630000\n",
+        &mut work,
         &mut sheet,
     );
-    plan_with_enough(
+    plan_case(
         b"the smaller code",
         b"01010201000000640064\n0201000300640000\n0201000300640000\n",
+        &mut work,
         &mut sheet,
     );
-    plan_with_enough(
+    plan_case(
         b"limit 0",
         b"01010201000000640000\n0201000100000000\n0201000100010000\n",
+        &mut work,
         &mut sheet,
     );
 }

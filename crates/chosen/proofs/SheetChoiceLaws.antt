@@ -34,9 +34,9 @@ use Rattle.model.proofs.PlanLaws.{chosen-length}
 use Rattle.model.proofs.SheetLaws.{sheet-length, choice-is, choice-back}
 use Rattle.model.proofs.HeldLaws.{held-valid, held-count, held-few, held-load}
 use Rattle.sums.proofs.PickLaws.{picked-choice}
-use Rattle.chosen.specs.declared.SheetPicks.{SheetPicks}
-use Rattle.chosen.specs.Found.{PicksOn, Belongs, ChoiceOn}
 use Rattle.sheet.proofs.WriteLaws.{number-at, choice-length}
+use Rattle.chosen.specs.declared.SheetPicks.{SheetPicks}
+use Rattle.chosen.specs.Chosen.{PicksOn, Belongs, ChoiceOn}
 
 -- ---- the numbers on a sheet
 

@@ -1,2 +1,2 @@
 -- The definitions that the contracts of the choice on a sheet cite.
-pub mod Found
+pub mod Chosen

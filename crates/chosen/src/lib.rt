@@ -5,7 +5,7 @@ ghost use mathlib.Core.Bool.{false};
 ghost use lib.ListN.{length};
 ghost use Rattle.model.specs.Sheet.{sheetBytes, sheetLength};
 ghost use Rattle.model.specs.Values.{Held, Picked, choiceOf, problemOf};
-ghost use Rattle.chosen.specs.Found.{PicksOn, Belongs, ChoiceOn};
+ghost use Rattle.chosen.specs.Chosen.{PicksOn, Belongs, ChoiceOn};
 
 // What the first line of a sheet says of the choice; `ok` is false where a number is not one of its load's.
 pub struct Picks {

@@ -165,24 +165,6 @@ fn first_free(wanted: Wanted, used: u64) -> u64 {
     }
 }
 
-// Whether the planner answers what is wanted and keeps the words from one on.
-fn keeps_from(
-    book: &[u8],
-    length: u64,
-    work: &mut [u64],
-    lent: Lent,
-    wanted: Wanted,
-    sheet: &[u8],
-    free: u64,
-) -> bool {
-    let mut buffer = [46u8; 192];
-    mark(work, free, lent.words);
-    let answer = ask_planner(book, length, work, lent, &mut buffer);
-    same_answer(answer, wanted)
-        && marked(work, free, lent.words)
-        && same_buffer(&buffer, sheet, wanted)
-}
-
 // Whether the planner does what is wanted; `sheet` is what the buffer is to hold where that is no refusal, and `used` the words that the
 // planner may change.
 pub fn plan_agrees(
@@ -195,7 +177,12 @@ pub fn plan_agrees(
     used: u64,
 ) -> bool {
     let free = first_free(wanted, used);
-    keeps_from(book, length, work, lent, wanted, sheet, free)
+    let mut buffer = [46u8; 192];
+    mark(work, free, lent.words);
+    let answer = ask_planner(book, length, work, lent, &mut buffer);
+    same_answer(answer, wanted)
+        && marked(work, free, lent.words)
+        && same_buffer(&buffer, sheet, wanted)
 }
 
 // The buffer holds the wanted bytes of the sheet and is as it was after them.

@@ -1,7 +1,4 @@
 // The generator of books, from a seed, and the counts of what it drew. Each function that draws gives the seed after.
-mod count;
-
-pub use count::count_book;
 use plain::Drawn;
 use plain::at;
 use plain::greater;
@@ -14,6 +11,10 @@ use plain::rest;
 use plain::roll;
 use plain::roll_from;
 use plain::times;
+
+mod count;
+
+pub use count::count_book;
 
 // Whether a book's table is kept small by limits near 0, as more loads or more slots would pass the work area.
 fn is_tight(book: &[u64]) -> bool {

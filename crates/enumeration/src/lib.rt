@@ -2,7 +2,6 @@
 mod enumerate;
 mod sheet;
 
-pub use enumerate::Best;
 pub use enumerate::best_choice;
 pub use enumerate::cells;
 pub use enumerate::choices;

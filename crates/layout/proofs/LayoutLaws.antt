@@ -23,9 +23,9 @@ use Rattle.moves.specs.Moves.{movesOf, LoadIs}
 use Rattle.search.specs.Search.{TopsAre, Modelled}
 use Rattle.slots.specs.Slots.{SlotsIn}
 use Rattle.slots.specs.declared.Slots.{Slots}
+use Rattle.slots.proofs.SlotLaws.{slots-length}
 use Rattle.layout.specs.declared.Extent.{Extent}
 use Rattle.layout.specs.Layout.{Extended, LayoutIs}
-use Rattle.slots.proofs.SlotLaws.{slots-length}
 
 setting-below : (i : ℕ) (vs : Settings) → Numbered i vs → i + length vs ≤ 4 → Every SettingSmall vs → Every (SettingBelow 65535) vs
 setting-below i [] n l s = tt

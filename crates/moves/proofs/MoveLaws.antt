@@ -24,11 +24,11 @@ use Rattle.model.proofs.RoundingLaws.{floor-small}
 use Rattle.model.specs.Index as index
 use Rattle.model.proofs.RowLaws.{digit-plus}
 use Rattle.model.proofs.HeldLaws.{setting-small, load-active, load-reactive}
-use Rattle.moves.specs.Moves.{ActivesAre, MoveIs, LoadHeld}
 use Rattle.slots.specs.declared.Slots.{Slots}
 use Rattle.slots.specs.Slots.{noSlot, SlotAt}
 use Rattle.slots.proofs.ArrayLaws.{set-down}
 use Rattle.slots.proofs.ExtentLaws.{rows-some, columns-some, rows-fit, columns-fit, rows-more, columns-more}
+use Rattle.moves.specs.Moves.{ActivesAre, MoveIs, LoadHeld}
 
 -- digits that are at most m, in n places whose values multiply up to c
 digit-most : (n x c w d m : ℕ) → x ≤ m * n * c → d ≤ m → 1 ≤ c * w → x * w + d ≤ m * (n + 1) * (c * w)

@@ -1,2 +1,2 @@
--- What a load holds.
+-- What the settings of a load do.
 pub mod Moves

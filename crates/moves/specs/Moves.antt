@@ -47,6 +47,8 @@ pub record LoadIs (r : ℕ) (slots : List Slot) (k : ℕ) (vs : Settings) (load 
   pub ascending : (m n : ℕ) → m < n → n < length vs → getD vs m noSetting .number < getD vs n noSetting .number
   pub each : (n : ℕ) → n < length vs → MoveIs r slots k (getD vs n noSetting) (moveOf load n)
 
+-- ---- what a load holds
+
 -- the settings that a load's value holds
 pub record LoadHeld (l : Load) : Type 0 where
   pub settings : Settings

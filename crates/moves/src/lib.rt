@@ -11,8 +11,8 @@ ghost use lib.ListN.{getD};
 ghost use Rattle.model.specs.Grid.{floorDiv};
 ghost use Rattle.model.specs.Values.{raised, lowered, settingOf, Held, problemOf};
 ghost use Rattle.model.specs.Rounding.{floorBySum};
-ghost use Rattle.moves.specs.Moves.{movesOf, MoveIs, LoadIs, LoadHeld};
 ghost use Rattle.slots.specs.Slots.{Laid};
+ghost use Rattle.moves.specs.Moves.{movesOf, MoveIs, LoadIs, LoadHeld};
 
 // The grid value of a reactive power, by arithmetic that asks for no sign: `power` is Q + 32,768, so that 32,768 × (L - 1) more make
 // Q + 32,768 × L, and the quotient is the grid value + 32,768. The 32,768 are taken off where the columns move (`down`).

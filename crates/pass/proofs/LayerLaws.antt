@@ -22,13 +22,13 @@ use Rattle.stretch.specs.declared.SettingMove.{SettingMove}
 use Rattle.stretch.specs.declared.Grid.{Grid}
 use Rattle.stretch.specs.declared.LoadMoves.{LoadMoves}
 use Rattle.stretch.specs.declared.Stretch.{Stretch}
-use Rattle.pass.specs.declared.Made.{Made}
 use Rattle.stretch.specs.Stretch.{tried, moveOf, GridFits, Offers, Spans, EmptyFrom, Reaches}
 use Rattle.rows.specs.Row.{heldIn, held, sourceOf, offerOf, raiseUpto, LoadRoom, Opened, RowKeys, raisedRows}
-use Rattle.pass.specs.Pass.{RowMade, countRows, LayerMade}
 use Rattle.rows.proofs.KeyLaws.{shift-from, shift-below, raise-upto, upto-split, upto-same}
 use Rattle.rows.proofs.OpenLaws.{span-ends, clear-room}
 use Rattle.rows.proofs.SourceLaws.{row-end, next-row, held-in, held-low, held-high, source-out, source-column, cond-bounded, Same, offer-same, room-same, rows-same}
+use Rattle.pass.specs.declared.Made.{Made}
+use Rattle.pass.specs.Pass.{RowMade, countRows, LayerMade}
 
 -- ---- counts
 

@@ -1,4 +1,4 @@
--- The parts of the planner, over the definitions of model.
+-- The plan of a book that was read, over the definitions of model.
 use Prim.Native.Nat.{ℕ}
 use Rattle.model.specs.Refusals.{Result, andThen}
 use Rattle.model.specs.Book.{Problem}

@@ -13,7 +13,7 @@ use Rattle.model.specs.SheetReader.{trialsOn, sheetData, readerResult, sheetAns
 use Rattle.model.specs.Values.{readingOf, choiceOf}
 use Rattle.model.proofs.SheetLaws.{dataOf}
 use Rattle.chosen.specs.declared.SheetPicks.{SheetPicks}
-use Rattle.chosen.specs.Found.{ChoiceOn}
+use Rattle.chosen.specs.Chosen.{ChoiceOn}
 
 -- ---- the sheet reader's result for one book
 

@@ -15,6 +15,8 @@ use Rattle.stretch.specs.declared.LoadMoves.{LoadMoves}
 use Rattle.stretch.specs.declared.Stretch.{Stretch}
 use Rattle.stretch.specs.Stretch.{tried, moveOf}
 
+-- ---- what a layer holds
+
 -- column col of a row whose cells start at `at`, and of which the stretch from low to high is held
 unfoldable pub heldIn : List ℕ → ℕ → ℕ → ℕ → ℕ → Option Key
 heldIn ws at low high col = cond (leb low col && ltb col high) (keyOf (cellAt ws (at + col))) none
@@ -23,6 +25,8 @@ heldIn ws at low high col = cond (leb low col && ltb col high) (keyOf (cellAt ws
 unfoldable pub held : List ℕ → List ℕ → List ℕ → ℕ → ℕ → ℕ → ℕ → Option Key
 unfolding heldIn
 held ws lows highs base width row col = heldIn ws (base + row * width) (getD lows row 0) (getD highs row 0) col
+
+-- ---- what a setting offers
 
 -- what the one cell holds from which a setting comes to the cell at a row and a column
 unfoldable pub sourceOf : List ℕ → List ℕ → List ℕ → Grid → ℕ → SettingMove → ℕ → ℕ → Option Key
@@ -47,6 +51,8 @@ raise (some x) (some y) = some (cond (ltb (x .worth) (y .worth)) y x)
 unfoldable pub raiseUpto : ℕ → (ℕ → Option Key) → Option Key → Option Key
 raiseUpto zero f x = x
 raiseUpto (suc n) f x = raise (raiseUpto n f x) (f n)
+
+-- ---- what the functions ask
 
 -- each cell of the current layer has room for a setting's gain and digit
 pub record MoveRoom (ws lows highs : List ℕ) (grid : Grid) (cur gain digit : ℕ) : Type 0 where
@@ -74,6 +80,8 @@ pub record Ends (grid : Grid) (row : ℕ) (mv : SettingMove) (part : Stretch) : 
   pub target-in : part .high ≤ grid .width
   pub source-end : (row - mv .back) * grid .width + grid .width ≤ grid .cells
   pub target-end : row * grid .width + grid .width ≤ grid .cells
+
+-- ---- what the functions make
 
 -- the words ws′ are ws with the cells of one row, at `at`, holding f 0, f 1, .., and every cell outside the row as it was
 pub record RowKeys (ws ws′ : List ℕ) (at width : ℕ) (f : ℕ → Option Key) : Type 0 where

@@ -33,8 +33,8 @@ use Rattle.rows.specs.Row.{held, LoadRoom}
 use Rattle.pass.specs.Pass.{countRows, LayerMade}
 use Rattle.rows.proofs.SourceLaws.{held-in, held-low, held-high}
 use Rattle.pass.proofs.LayerLaws.{rows-count-le}
-use Rattle.search.specs.Search.{firstCell, Modelled, LayerIs, Places, trialsOf, Run, Searched}
 use Rattle.moves.specs.Moves.{movesOf}
+use Rattle.search.specs.Search.{firstCell, Modelled, LayerIs, Places, trialsOf, Run, Searched}
 use Rattle.search.proofs.ModelLaws.{width-in, grid-fits, load-fits, load-room, layer-next, layer-count}
 
 pub tries-small : {reached count : ℕ} → reached ≤ mostCells → count ≤ 4 → reached * count ≤ 4194304

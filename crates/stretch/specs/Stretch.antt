@@ -11,6 +11,8 @@ use Rattle.stretch.specs.declared.Grid.{Grid}
 use Rattle.stretch.specs.declared.LoadMoves.{LoadMoves}
 use Rattle.stretch.specs.declared.Stretch.{Stretch}
 
+-- ---- where a setting leads
+
 -- from slot t on, for n slots: the row's active coordinate, the remainder by the slot's count, is at least `active`
 unfoldable pub coversFrom : List ℕ → List ℕ → ℕ → ℕ → ℕ → Bool
 coversFrom tops active t zero rest = true
@@ -28,6 +30,8 @@ noMove = record { gain = 0; digit = 0; back = 0; up = 0; down = 0; active = [] }
 -- what setting n of a load does
 abbrev pub moveOf : LoadMoves → ℕ → SettingMove
 moveOf load n = getD (load .moves) n noMove
+
+-- ---- what the functions ask
 
 -- the slots, the rows and the cells are within their bounds, and the rows and columns make up the cells
 pub record GridFits (grid : Grid) : Type 0 where
@@ -53,6 +57,8 @@ pub record MoveFits (grid : Grid) (mv : SettingMove) : Type 0 where
 pub record LoadFits (grid : Grid) (load : LoadMoves) : Type 0 where
   pub count-fits : load .count ≤ mostSettings
   pub each : (n : ℕ) → n < load .count → MoveFits grid (moveOf load n)
+
+-- ---- what the functions find
 
 -- the columns to which a shift takes a stretch, within a row
 pub record Clipped (low high up down width : ℕ) (r : Stretch) : Type 0 where

@@ -1,4 +1,4 @@
-// Which columns of a row a load's settings can reach: the stretch of each row, and how many rows.
+// The table's grid, what a setting does to a cell, and how far a load's settings reach: the stretch of columns of each row, and the rows.
 use model::Book;
 use model::Load;
 ghost use mathlib.Core.Path.{_≡_};

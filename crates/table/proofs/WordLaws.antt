@@ -12,10 +12,10 @@ use lib.Seq.{getD-set-same, getD-set-other, set-getD}
 use borrow.Author.Tests.{eq-eqb, ne-eqb, lt-ltb, le-ltb, le-leb, lt-leb}
 use mathlib.Core.Logic.{⊎-elim}
 use Rattle.model.proofs.IntegerLaws.{split}
-use Rattle.table.specs.declared.Cell.{Cell}
+use Rattle.model.specs.Cells.{isSome, countUpto}
 use borrow.Author.Count.{below-more}
 use native.Mathlib.Nat.{not-suc-le-zero, le-antisymm}
-use Rattle.model.specs.Cells.{isSome, countUpto}
+use Rattle.table.specs.declared.Cell.{Cell}
 use Rattle.table.specs.Table.{cellAt, putAt, keyIf, keyOf, raised, offered, offeredAt, Room, Rows, Roomy, Filled, offeredRow, copiedRow, carriedRow, noCell, empty, reached}
 
 module _ (old src : Cell) (gain digit : ℕ) where

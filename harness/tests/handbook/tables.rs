@@ -31,8 +31,16 @@ pub const TABLES: [Table; 3] = [
 impl Table {
     /// The rows as they should be and as they are.
     pub fn rows(&self, prose: &[&str]) -> Result<(String, String), String> {
-        let after = prose.iter().skip_while(|line| !line.starts_with(self.head));
-        let rows = after.skip(2).take_while(|line| line.starts_with('|'));
+        let heads: Vec<usize> = (0..prose.len())
+            .filter(|&at| prose[at].starts_with(self.head))
+            .collect();
+        let [head] = heads[..] else {
+            return Err(format!("there are {} tables '{}'", heads.len(), self.head));
+        };
+        let mut rows = prose[head + 1..].iter().take_while(|line| line.starts_with('|'));
+        if !rows.next().is_some_and(|line| line.starts_with("|---")) {
+            return Err(format!("no line |--- follows '{}'", self.head));
+        }
         let (mut want, mut got) = (String::new(), String::new());
         for row in rows {
             let columns = row.split('|').skip(1);
@@ -42,7 +50,7 @@ impl Table {
             got += &format!("{row}\n");
         }
         match got.is_empty() {
-            true => Err(format!("there is no table '{}'", self.head)),
+            true => Err(format!("no row follows '{}'", self.head)),
             false => Ok((want, got)),
         }
     }

@@ -9,8 +9,8 @@ use Rattle.model.specs.Refusals.{first, refused}
 use Rattle.model.specs.Book.{optionCount, loadRules, settings}
 use Rattle.model.specs.Values.{loadValue}
 use Rattle.model.specs.Bounds.{mostLoads}
-use Rattle.book.specs.Lines.{loadsReading}
 use Rattle.loadline.proofs.LineLaws.{load-line, line-holds}
+use Rattle.book.specs.Lines.{loadsReading}
 use Rattle.book.proofs.LoadsLaws.{Read, read-none, read-unterminated, read-refused, read-more, read-trailing, read-all, length-is, line-is, after-is}
 use borrow.Author.Needs.{needs}
 use native.Mathlib.Omega.{arith}

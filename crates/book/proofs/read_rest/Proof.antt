@@ -4,9 +4,9 @@ use Rattle.model.specs.declared.Reading.{Reading}
 use Rattle.model.specs.Book.{slotCount, loadCount, readLoads}
 use Rattle.model.specs.Values.{freshBook}
 use Rattle.model.proofs.ValidLaws.{loads-valid}
+use Rattle.header.proofs.HeaderLaws.{header-line, header-loads}
 use Rattle.book.specs.Lines.{loadsReading}
 use Rattle.book.specs.declared.LoadsReading.{LoadsReading}
-use Rattle.header.proofs.HeaderLaws.{header-line, header-loads}
 use Rattle.book.proofs.LoadsLaws.{book-refused, book-done}
 use native.Mathlib.Omega.{arith}
 use borrow.Author.Needs.{needs}

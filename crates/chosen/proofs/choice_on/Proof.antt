@@ -2,7 +2,7 @@
 use mathlib.Core.Path.{sym, subst, _∙_}
 use borrow.Author.Tests.{not-true, not-false}
 use Rattle.model.specs.Values.{problemOf}
-use Rattle.chosen.specs.Found.{PicksOn}
+use Rattle.chosen.specs.Chosen.{PicksOn}
 use Rattle.chosen.proofs.SheetChoiceLaws.{none-foreign, length-foreign, foreign-on, compared-on}
 use native.Mathlib.Omega.{arith}
 use borrow.Author.Needs.{needs}

@@ -1,19 +1,19 @@
 -- `header::header_finding` meets its contract: past each test that fails, the rules after it decide. Assumes nothing.
 use Rattle.hex.proofs.RangeLaws.{kind-long, ranged}
-use Rattle.header.proofs.HeaderLaws.{first-out, second-out, none-out}
+use Rattle.model.specs.declared.Refusal.the-variants.{NotHex, WrongKind, SlotsOrOptionsOutOfRange, WrongLength, LoadsOrFinenessOutOfRange}
 use mathlib.Core.Path.{_≡_, sym, ap, _∙_}
 use mathlib.Core.Bool.{not}
 use mathlib.Core.List.{List}
 use Prim.Native.Nat.{ℕ, _+_, _*_}
 use lib.ListN.{length, drop}
 use borrow.Author.Tests.{eq-eqb, ne-eqb}
-use Rattle.model.specs.declared.Refusal.the-variants.{NotHex, WrongKind, SlotsOrOptionsOutOfRange, WrongLength, LoadsOrFinenessOutOfRange}
 use Rattle.model.specs.Lists.{within}
 use Rattle.model.specs.Refusals.{first}
 use Rattle.model.specs.Book.{headerRules, slotCount, loadCount, finenessIn}
 use Rattle.model.specs.Bounds.{mostLoads, mostFineness}
 use Rattle.model.proofs.FrameLaws.{field-below}
 use Rattle.model.proofs.RefusalLaws.{first-here, first-next, first-last}
+use Rattle.header.proofs.HeaderLaws.{first-out, second-out, none-out}
 use native.Mathlib.Omega.{arith}
 use borrow.Author.Needs.{needs}
 use Rattle.header.proofs.header_finding.Statement.{statement}

@@ -1,9 +1,9 @@
 -- `hex::write` meets its contract. The invariant: the digits from the end are written, and `rest` is what is left of x. Assumes nothing.
 use mathlib.Core.Path.{_≡_, refl, ap₂, _∙_}
-use Rattle.hex.proofs.WrittenLaws.{digits-none, digits-more}
+use Rattle.model.specs.Frames.{digits}
 use Prim.Native.Nat.{_+_, _-_, _/_, _^_, _≤_}
 use lib.ListN.{length, length-set}
-use Rattle.model.specs.Frames.{digits}
+use Rattle.hex.proofs.WrittenLaws.{digits-none, digits-more}
 use Rattle.hex.specs.Written.{written}
 use borrow.Author.Needs.{needs}
 use native.Mathlib.Omega.{arith}

@@ -9,10 +9,10 @@ use Rattle.model.specs.Grid.{slotsOf, keepsLimits}
 use Rattle.model.specs.Valid.{SettingSmall}
 use Rattle.model.specs.Values.{problemOf}
 use Rattle.sums.specs.Sums.{sumsValue}
-use Rattle.limits.proofs.KeepLaws.{keepsFrom, keeps-all, keeps-go, keeps-stop, keeps-end, entry-kept}
+use Rattle.model.proofs.HeldLaws.{held-slots, held-few, held-four, held-limit-small}
 use borrow.Author.Needs.{needs}
 use native.Mathlib.Omega.{arith}
-use Rattle.model.proofs.HeldLaws.{held-slots, held-few, held-four, held-limit-small}
+use Rattle.limits.proofs.KeepLaws.{keepsFrom, keeps-all, keeps-go, keeps-stop, keeps-end, entry-kept}
 use Rattle.limits.proofs.keeps.Statement.{statement}
 use Rattle.limits.proofs.keeps.Tie as tie
 

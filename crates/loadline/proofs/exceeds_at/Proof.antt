@@ -2,10 +2,10 @@
 use mathlib.Core.Path.{_≡_, ap, _∙_}
 use lib.Dec.{ltb}
 use Rattle.model.specs.Book.{optionStart, powerAt}
-use Rattle.loadline.specs.LoadLine.{powerValue}
-use Prim.Native.Nat.{_+_, _*_}
 use Rattle.model.specs.Frames.{field}
+use Prim.Native.Nat.{_+_, _*_}
 use Rattle.model.proofs.FrameLaws.{field-below}
+use Rattle.loadline.specs.LoadLine.{powerValue}
 use Rattle.loadline.proofs.LineLaws.{option-small, option-next, abs-signed}
 use native.Mathlib.Omega.{arith}
 use borrow.Author.Needs.{needs}

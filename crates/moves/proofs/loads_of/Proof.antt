@@ -8,9 +8,9 @@ use lib.ListN.{getD, length, length-set}
 use Rattle.model.specs.Bounds.{mostLoads}
 use Rattle.model.specs.Values.{problemOf}
 use Rattle.model.proofs.HeldLaws.{held-few}
-use Rattle.moves.specs.Moves.{noMoves, movesOf, LoadIs}
 use Rattle.slots.specs.Slots.{Laid}
 use Rattle.slots.proofs.ArrayLaws.{set-each}
+use Rattle.moves.specs.Moves.{noMoves, movesOf, LoadIs}
 use Rattle.moves.proofs.LoadLaws.{load-held, unit-small, unit-more}
 use Rattle.moves.proofs.loads_of.Statement.{statement}
 use Rattle.moves.proofs.loads_of.Tie as tie

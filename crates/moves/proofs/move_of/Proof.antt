@@ -7,8 +7,8 @@ use borrow.Author.Needs.{needs}
 use lib.ListN.{getD, set, length}
 use Rattle.model.specs.Values.{raised, settingOf}
 use Rattle.slots.specs.Slots.{Laid}
-use Rattle.moves.specs.Moves.{LoadHeld}
 use Rattle.slots.proofs.ExtentLaws.{back-one}
+use Rattle.moves.specs.Moves.{LoadHeld}
 use Rattle.moves.proofs.MoveLaws.{Moved, moved-none, moved-more, moved-all, back-fits, up-fits, down-fits, load-few, load-setting, load-q-small, digits-at}
 use Rattle.moves.proofs.move_of.Statement.{statement}
 use Rattle.moves.proofs.move_of.Tie as tie

@@ -6,9 +6,9 @@ use borrow.Author.Needs.{needs}
 use lib.ListN.{getD, length, length-set}
 use Rattle.model.specs.Values.{settingOf}
 use Rattle.stretch.specs.Stretch.{noMove}
-use Rattle.moves.specs.Moves.{MoveIs, LoadHeld}
 use Rattle.slots.specs.Slots.{Laid}
 use Rattle.slots.proofs.ArrayLaws.{set-each}
+use Rattle.moves.specs.Moves.{MoveIs, LoadHeld}
 use Rattle.moves.proofs.MoveLaws.{load-few}
 use Rattle.moves.proofs.LoadLaws.{load-all}
 use Rattle.moves.proofs.moves_of.Statement.{statement}

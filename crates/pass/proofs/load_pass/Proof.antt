@@ -6,9 +6,9 @@ use Prim.Native.Nat.{_≤_, _-_, _*_}
 use mathlib.Core.Path.{_≡_, refl}
 use mathlib.Core.Bool.{true}
 use Rattle.rows.specs.Row.{held}
-use Rattle.pass.specs.Pass.{countRows, LayerMade}
 use Rattle.stretch.specs.Stretch.{EmptyFrom}
 use Rattle.rows.proofs.SourceLaws.{row-end, next-row}
+use Rattle.pass.specs.Pass.{countRows, LayerMade}
 use Rattle.pass.proofs.LayerLaws.{below, empty-set-row, layer-rest, layer-rest-count, layer-none, layer-rows, layer-room, layer-more, layer-count, layer-all, layer-total}
 use Rattle.pass.proofs.load_pass.Statement.{statement}
 use Rattle.pass.proofs.load_pass.Tie as tie

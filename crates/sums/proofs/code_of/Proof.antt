@@ -2,11 +2,11 @@
 use mathlib.Core.Path.{_≡_, sym, ap, _∙_}
 use Prim.Native.Nat.{_+_, _-_, _*_, _≤_}
 use lib.ListN.{getD}
-use Rattle.sums.proofs.PickLaws.{codeFrom, code-more, held-pick, held-code-small, held-code}
+use Rattle.model.specs.Bounds.{mostLoads}
 use borrow.Author.Needs.{needs}
 use native.Mathlib.Omega.{arith}
-use Rattle.model.specs.Bounds.{mostLoads}
 use Rattle.model.proofs.HeldLaws.{held-few}
+use Rattle.sums.proofs.PickLaws.{codeFrom, code-more, held-pick, held-code-small, held-code}
 use Rattle.sums.proofs.code_of.Statement.{statement}
 use Rattle.sums.proofs.code_of.Tie as tie
 

@@ -3,11 +3,11 @@ use mathlib.Core.Path.{_≡_, _∙_}
 use Prim.Native.Nat.{_-_, _≤_}
 use Rattle.model.specs.Values.{problemOf}
 use Rattle.model.specs.Bounds.{mostLoads}
+use Rattle.model.proofs.HeldLaws.{held-few}
 use Rattle.sums.specs.Sums.{sumsValue}
-use Rattle.sums.proofs.PickLaws.{picksUpto, held-can-add, held-sums, held-all}
 use borrow.Author.Needs.{needs}
 use native.Mathlib.Omega.{arith}
-use Rattle.model.proofs.HeldLaws.{held-few}
+use Rattle.sums.proofs.PickLaws.{picksUpto, held-can-add, held-sums, held-all}
 use Rattle.sums.proofs.sums_of.Statement.{statement}
 use Rattle.sums.proofs.sums_of.Tie as tie
 

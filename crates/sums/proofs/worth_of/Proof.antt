@@ -6,10 +6,10 @@ use Rattle.model.specs.declared.Load.{Load}
 use Rattle.model.specs.Choice.{worthOf}
 use Rattle.model.specs.Values.{problemOf}
 use Rattle.model.specs.Bounds.{mostLoads}
-use Rattle.sums.proofs.PickLaws.{picksUpto, held-pick, held-worth, held-worth-small, held-all}
+use Rattle.model.proofs.HeldLaws.{held-few}
 use borrow.Author.Needs.{needs}
 use native.Mathlib.Omega.{arith}
-use Rattle.model.proofs.HeldLaws.{held-few}
+use Rattle.sums.proofs.PickLaws.{picksUpto, held-pick, held-worth, held-worth-small, held-all}
 use Rattle.sums.proofs.worth_of.Statement.{statement}
 use Rattle.sums.proofs.worth_of.Tie as tie
 
