@@ -14,7 +14,8 @@ pub mod session;
 pub mod table;
 pub mod trials;
 
-// The archive's calls as functions on slices, their answers and the largest sizes; `build.rs` writes them.
+// The archive's calls as functions on slices: `plan` (jadeshuttle_plan), `quick` (jadeshuttle_quick) and `read_sheet`
+// (jadeshuttle_read_sheet); their answers, and the largest sizes. `build.rs` writes them.
 include!(concat!(env!("OUT_DIR"), "/declarations.rs"));
 
 /// A planner's answer in the reader's form, so that one comparison serves all calls.
