@@ -20,7 +20,7 @@ use Rattle.model.specs.declared.Refusal.the-variants.{ForeignSheet}
 use Rattle.model.specs.Lists.{Every, sameLists}
 use Rattle.model.specs.Bounds.{mostLoads}
 use Rattle.model.specs.Frames.{field}
-use Rattle.model.specs.Refusals.{refused, done, first, checked}
+use Rattle.model.specs.Refusals.{Result, refused, done, first, checked, andThen}
 use Rattle.model.specs.Book.{Setting, Settings, Problem}
 use Rattle.model.specs.Choice.{Choice, settingNumbered}
 use Rattle.model.specs.Sheet.{sheetBytes, sheetLength}
@@ -189,3 +189,12 @@ module _ (sheet : List ℕ) (b : Problem) where
             other-foreign (choiceOf b picks) (on .found refl)
             (λ e. false≢true (sym q ∙ h .known (e ∙ ap (sheetBytes b (choiceOf b picks)) (sym t))));
       }
+
+-- ---- what is made of the choice on a sheet
+
+module _ (sheet : List ℕ) (b : Problem) (v : SheetPicks) (on : ChoiceOn sheet b v) {A : Type 0} (f : Choice → Result A) where
+  pub then-foreign : v .belongs ≡ false → refused ForeignSheet 0 ≡ andThen (sheetChoice sheet b) f
+  then-foreign q = sym (ap (λ x. andThen x f) (on .foreign q))
+
+  pub then-read : v .belongs ≡ true → f (choiceOf b (v .picks)) ≡ andThen (sheetChoice sheet b) f
+  then-read q = sym (ap (λ x. andThen x f) (on .found q))

@@ -4,13 +4,13 @@ use mathlib.Core.Path.{_≡_, refl, sym, ap, ap₂, _∙_, subst}
 use mathlib.Core.Logic.{inl, inr}
 use mathlib.Core.Bool.{Bool, true, false, _&&_, _||_, false≢true}
 use mathlib.Core.List.{List, [], _∷_, _++_, map}
-use Prim.Native.Nat.{ℕ, zero, suc, _*_, _<_, _≤_}
+use Prim.Native.Nat.{ℕ, zero, suc, _+_, _*_, _<_, _≤_}
 use native.Mathlib.Nat.{le-of-suc-le-suc}
 use native.Mathlib.Omega.{arith}
 use lib.Dec.{T, leb, eqb}
 use lib.ListN.{length, getD, take, set, length-append}
 use borrow.Author.Tests.{leb-true, eqb-true, eq-eqb}
-use Rattle.model.specs.Lists.{within, Mem, Every, keep, keepIf, all, any, concat, sameLists}
+use Rattle.model.specs.Lists.{within, sumBelow, Mem, Every, keep, keepIf, all, any, concat, sameLists}
 
 pub both : (t u : Bool) → T (t && u) → T t × T u
 both true true h = (tt, tt)
@@ -143,6 +143,12 @@ module _ {A B : Type 0} where
 
   pub every-image : (P : B → Type 0) (f : A → B) (xs : List A) → ((x : A) → P (f x)) → Every P (map f xs)
   every-image P f xs h = every-map P f xs (every-all (λ x. P (f x)) xs h)
+
+-- ---- sums
+
+pub below-same : (f g : ℕ → ℕ) (n : ℕ) → ((s : ℕ) → s < n → f s ≡ g s) → sumBelow n f ≡ sumBelow n g
+below-same f g zero h = refl
+below-same f g (suc n) h = ap₂ _+_ (below-same f g n (λ s l. h s (omega arith))) (h n (omega arith))
 
 -- ---- lists one after the other, and lists compared
 

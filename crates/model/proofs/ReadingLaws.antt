@@ -3,9 +3,11 @@
 use mathlib.Core.Path.{_≡_, refl, sym, ap, subst}
 use mathlib.Core.List.{List}
 use Prim.Native.Nat.{ℕ}
+use Rattle.model.specs.declared.Answer.{Answer}
 use Rattle.model.specs.declared.Reading.{Reading}
+use Rattle.model.specs.declared.Refusal.{Refusal}
 use Rattle.model.specs.Refusals.{Result, refused, done, andThen}
-use Rattle.model.specs.Answers.{Output, Writes}
+use Rattle.model.specs.Answers.{Output, Writes, refusalAnswer}
 use Rattle.model.specs.Book.{Problem, readBook}
 use Rattle.model.specs.Values.{Held, problemOf, readingOf}
 use Rattle.model.proofs.RefusalLaws.{number-some}
@@ -29,12 +31,18 @@ module _ (bytes : List ℕ) (v : Reading) (is : v ≡ readingOf (readBook bytes)
       go (refused r line) e h = absurd (number-some r h)
       go (done b) e h = ap f (book-kept bytes b e)
 
-  -- a refusal of the book, and the buffer as before
+  -- a refusal of the book: what is so of every refusal and its answer is so of this one, whatever would be made of the book
+  pub refusal-passed-on : {A : Type 0} (P : Result A → Answer → Type 0) → ((r : Refusal) (line : ℕ) → P (refused r line) (refusalAnswer r line))
+      → (f : Problem → Result A) → (v .answer .number ≡ 0 → ⊥) → P (andThen (readBook bytes) f) (v .answer)
+  refusal-passed-on {A} P each f =
+      subst (λ (x : Reading). (x .answer .number ≡ 0 → ⊥) → P (andThen (readBook bytes) f) (x .answer)) (sym is) (go (readBook bytes))
+    where
+      go : (x : Result Problem) → (readingOf x .answer .number ≡ 0 → ⊥) → P (andThen x f) (readingOf x .answer)
+      go (refused r line) h = each r line
+      go (done b) h = absurd (h refl)
+
+  -- and the buffer as before
   pub reading-refused : (f : Problem → Result Output) (buffer : List ℕ) → (v .answer .number ≡ 0 → ⊥)
       → Writes (andThen (readBook bytes) f) buffer buffer (v .answer)
   reading-refused f buffer =
-      subst (λ (x : Reading). (x .answer .number ≡ 0 → ⊥) → Writes (andThen (readBook bytes) f) buffer buffer (x .answer)) (sym is) (go (readBook bytes))
-    where
-      go : (x : Result Problem) → (readingOf x .answer .number ≡ 0 → ⊥) → Writes (andThen x f) buffer buffer (readingOf x .answer)
-      go (refused r line) h = record { answers = refl; leaves = refl }
-      go (done b) h = absurd (h refl)
+      refusal-passed-on (λ x a. Writes x buffer buffer a) (λ r line. record { answers = refl; leaves = refl }) f

@@ -1,20 +1,22 @@
 -- `reader::read_sheet` meets its contract: a refusal of the book is passed on, and else the sheet is read. Assumes nothing.
-use mathlib.Core.Path.{ap, _∙_}
+use mathlib.Core.Path.{refl, ap, _∙_}
+use Rattle.model.specs.declared.SheetAnswer.{SheetAnswer}
 use Rattle.model.specs.SheetReader.{sheetData, readerResult, sheetAnswerOf}
-use Rattle.model.proofs.ReadingLaws.{reading-held, reading-done}
+use Rattle.model.proofs.ReadingLaws.{reading-held, reading-done, refusal-passed-on}
 use borrow.Author.Needs.{needs}
 use Rattle.reader.proofs.read_sheet.Statement.{statement}
-use Rattle.reader.proofs.DataLaws.{book-refused}
 use Rattle.reader.proofs.read_sheet.Tie as tie
 
 read-book-requires : tie.Need-read-book-requires
 read-book-requires c κs = search needs
 
 returns : tie.Need-returns
+unfolding readerResult
 returns c =
     let a = c .before .before .before .before .before .before .args in
     let r = c .before .before .before .read-book in
-    book-refused (a .book .now) (a .sheet .now) (r .result) (r .ensures) (c .if1 .taken)
+    refusal-passed-on (a .book .now) (r .result) (r .ensures) (λ x y. Path SheetAnswer (record { answer = y; code = 0 }) (sheetAnswerOf x)) (λ refusal line. refl)
+    (sheetData (a .sheet .now)) (c .if1 .taken)
 
 read-for-requires : tie.Need-read-for-requires
 read-for-requires c κs =
