@@ -1,5 +1,5 @@
-// Runs the planner, the quick planner and the sheet reader on fixed books and sheets, and prints each answer. Every refusal is
-// reached: 1 to 8 with its line, and 9 to 13. The stored output is what document 01 says.
+// Runs the planner, the quick planner, the sheet reader and the charge on fixed books and sheets, and prints each answer. Every
+// refusal is reached: 1 to 8 with its line, and 9 to 14. The stored output is what documents 01 and 02 say.
 use libc::STDOUT_FILENO;
 use model::Answer;
 
@@ -210,6 +210,25 @@ fn quick_sheets() {
     quick_case(b"example", book, &mut sheet);
 }
 
+// The charge of a sheet of document 01's example.
+fn charge_case(name: &[u8], sheet: &[u8], prices: &[u16]) {
+    let book = b"0101030400000064000A\n0201000500050005\n020100050004FFFC\n0201000400040000\n";
+    let charged = charge::charge(book, sheet, prices);
+    let answer = charged.answer;
+    print_numbers(name, b": charge, number ", answer);
+    print_field(b" charge ", charged.charge);
+    print(b"\n");
+}
+
+// P = 9 at the price 20 is four hundredths and a half; then a price too many, and no price with a foreign sheet.
+fn charges() {
+    let sheet = b"040000000A0000000E010100\n050000000900000001000A\n";
+    let prices = [20u16; 2];
+    charge_case(b"a half", sheet, &prices[..1]);
+    charge_case(b"two prices", sheet, &prices);
+    charge_case(b"foreign, no price", b"", &prices[..0]);
+}
+
 fn main() {
     unreadable_books();
     misshapen_books();
@@ -221,4 +240,5 @@ fn main() {
     refused_plans();
     refused_budgets();
     plans();
+    charges();
 }

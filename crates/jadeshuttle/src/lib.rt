@@ -1,7 +1,9 @@
-// The three public calls for programs in C and other languages: the planner, the quick planner and the sheet reader.
+// The public calls for programs in C and other languages: the planner, the quick planner, the sheet reader and the charge.
 use model::Answer;
+use model::ChargeAnswer;
 use model::SheetAnswer;
 ghost use mathlib.Core.Path.{_≡_};
+ghost use Prim.Native.Nat.{_≤_};
 ghost use lib.ListN.{length};
 ghost use Rattle.model.specs.Trials.{WordsKept};
 ghost use Rattle.model.specs.Answers.{Writes};
@@ -9,6 +11,8 @@ ghost use Rattle.model.specs.Calls.{plannerResult, freeWords};
 ghost use Rattle.model.specs.Quick.{quickResult};
 ghost use Rattle.model.specs.SheetReader.{readerResult, sheetAnswerOf};
 ghost use Rattle.model.specs.Demand.{Demand3};
+ghost use Rattle.model.specs.Charge.{chargeResult, chargeAnswerOf};
+ghost use Rattle.model.specs.Bounds.{mostCharge};
 
 // The planner: the sheet of the plan, or the first refusal of 1 to 12.
 #[no_mangle]
@@ -34,4 +38,13 @@ pub extern "C" fn jadeshuttle_read_sheet(book: &[u8], sheet: &[u8]) -> SheetAnsw
     ensures { λ r. ⌜ r ≡ sheetAnswerOf (readerResult (now (book .entry)) (now (sheet .entry))) ⌝ }
 {
     reader::read_sheet(book, sheet)
+}
+
+// The charge: what the energy on a sheet costs at a price for each slot, or refusals 13 and 14; the book's own refusals come first.
+#[no_mangle]
+pub extern "C" fn jadeshuttle_charge(book: &[u8], sheet: &[u8], prices: &[u16]) -> ChargeAnswer
+    ensures result { λ r. ⌜ r ≡ chargeAnswerOf (chargeResult (now (book .entry)) (now (sheet .entry)) (now (prices .entry))) ⌝ }
+    ensures most { λ r. ⌜ r .charge ≤ mostCharge ⌝ }
+{
+    charge::charge(book, sheet, prices)
 }

@@ -1,28 +1,31 @@
--- The proved table: document 01's starred cases ("Trials at the bench"), the ends of M-102's range, two overloads near M-106's bound, and edges where a
--- near mistake shows, as one table of facts about the definitions, with one statement covering it. Star n is the n-th star of document 01.
+-- The proved table: document 01's starred cases ("Trials at the bench"), the ends of M-102's range, two overloads near M-106's bound, charges (M-100), and
+-- edges where a near mistake shows, as one table of facts about the definitions, with one statement covering it. Star n is the n-th star of document 01.
 -- Assumes nothing.
 use mathlib.Core.Path.{_≡_, refl}
 use mathlib.Core.Bool.{Bool, true, false, _&&_}
-use mathlib.Core.List.{List, [], _∷_, map}
+use mathlib.Core.List.{List, [], _∷_, _++_, map}
 use Prim.Native.Nat.{ℕ, suc, _+_, _*_, _-_}
 use Prim.Native.String.{String, [] as ε, _∷_ as _⸬_}
 use Prim.Native.Char.{code}
 use lib.Dec.{leb, ltb, eqb}
 use lib.IntN.{ℤ, pos, negℤ}
-use lib.ListN.{length}
-use Rattle.model.specs.Lists.{upto, all, sameLists}
+use lib.ListN.{length, replicate}
+use Rattle.model.specs.declared.ChargeAnswer.{ChargeAnswer}
+use Rattle.model.specs.Lists.{upto, all, concat, sameLists}
 use Rattle.model.specs.Frames.{isDigit, digitValue, digit, valueFrom, field, digits, signed, unsigned, lineLength}
 use Rattle.model.specs.Refusals.{Result, refused, done, first}
 use Rattle.model.specs.Book.{Problem, optionStart, headerRules, someExceeds, loadRules, readLoads, readBook}
 use Rattle.model.specs.Choice.{square}
 use Rattle.model.specs.Grid.{stepFor, slotsOf, floorDiv, bestAdmitted, plan}
 use Rattle.model.specs.Trials.{cells, sameℤ, reachedCount, trialsUpto, trials}
-use Rattle.model.specs.Sheet.{numbersOf, firstLine, slotLine, slotLines, sheetBytes}
+use Rattle.model.specs.Sheet.{lf, numbersOf, firstLine, slotLine, slotLines, sheetBytes}
 use Rattle.model.specs.Calls.{sizeRules, fittingBook, choiceOr, planSheet, plannerResult}
 use Rattle.model.specs.Quick.{optionOne, sizeOf, takeIfFits, quickChoice, quickSheet, quickResult}
 use Rattle.model.specs.Program.{refusalLine, printed, programOutput}
 use Rattle.model.specs.Demand.{apparentSquaredIn, closerBound}
 use Rattle.model.specs.Rounding.{floorBySum}
+use Rattle.model.specs.SheetReader.{sheetChoice}
+use Rattle.model.specs.Charge.{rounded, chargeOf, choiceCharge, sheetCharge, chargeResult, chargeAnswerOf}
 
 abbrev pub bytesOf : String → List ℕ
 bytesOf ε = []
@@ -46,6 +49,10 @@ pub data Row : Type 0 where
   carries : String → ℕ → ℕ → ℕ → Row
   -- the program prints this for a book, and in each slot of that sheet 4d²(P² + Q²) is above (2d + 2)²S², and not above M-106's (2d + 3)²S²
   overloads : String → String → Row
+  -- n / 40, rounded
+  roundsCharge : ℕ → ℕ → Row
+  -- the number, the line and the charge that a book, a sheet and prices are answered with
+  charges : List ℕ → List ℕ → List ℕ → List ℕ → Row
 
 abbrev printsFor : String → String → Bool
 printsFor book out = sameLists eqb (programOutput (bytesOf book)) (bytesOf out)
@@ -66,6 +73,10 @@ inSlots test b = all (λ s. test (b .fineness) (s .limit) (apparentSquaredIn (s 
 abbrev nearBound : ℕ → ℕ → ℕ → Bool
 nearBound d s z = ltb (square (2 * d + 2) * square s) (4 * square d * z) && leb (4 * square d * z) (closerBound d s)
 
+-- the answer's number, line and charge
+abbrev chargeNumbers : ChargeAnswer → List ℕ
+chargeNumbers a = a .answer .number ∷ a .answer .line ∷ a .charge ∷ []
+
 -- the trials that load k + 1 adds
 abbrev triesOf : Problem → ℕ → ℕ
 triesOf b k = trialsUpto (slotsOf b) (b .loads) (suc k) - trialsUpto (slotsOf b) (b .loads) k
@@ -79,11 +90,29 @@ holds (rounds x l g) = sameℤ (floorDiv x l) g && sameℤ (floorBySum x l) g
 holds (tries book each) = readWith (λ b. sameLists eqb (map (triesOf b) (upto (length (b .loads)))) each) book
 holds (carries book m x y) = readWith (inSlots (λ d s z. eqb z x && eqb (square (d + m) * square s) (square d * y) && leb x y)) book
 holds (overloads book out) = printsFor book out && readWith (inSlots nearBound) book
+holds (roundsCharge n r) = eqb (rounded n) r
+holds (charges book sheet prices numbers) = sameLists eqb (chargeNumbers (chargeAnswerOf (chargeResult book sheet prices))) numbers
+
+-- two slots, and one load with P = 20 and P = 4; and the sheet on which it runs
+abbrev halvesBook : List ℕ
+halvesBook = bytesOf "010201010000006400640064\n020100010014000000040000\n"
+
+abbrev halvesSheet : List ℕ
+halvesSheet = bytesOf "04000000010000000401\n0500000014000000000064\n0500000004000000000064\n"
+
+-- four slots, and 24 loads of the greatest P; and the sheet on which all of them run
+abbrev fullBook : List ℕ
+fullBook =
+    bytesOf "0104180100000064FFFFFFFFFFFFFFFF\n" ++ concat (replicate 24 (bytesOf "02010000FFFF0000FFFF0000FFFF0000FFFF0000\n"))
+
+abbrev fullSheet : List ℕ
+fullSheet =
+    bytesOf "040000000000000000" ++ concat (replicate 24 (bytesOf "01")) ++ lf ++ concat (replicate 4 (bytesOf "050017FFE800000000FFFF\n"))
 
 unfoldable pub rows : List Row
 rows =
-    -- What is soon computed, edges and M-106 stand first: the checker shows what a table computes to only up to a number of steps, and a near mistake is
-    -- to show as false.
+    -- What is soon computed, edges and M-106 stand first, and the longest book last: the checker shows what a table computes to only up to a number of
+    -- steps, and a near mistake is to show as false.
     -- star 5: S = 23 and S = 24
     steps 3 4 23 1
     ∷ steps 3 4 24 2
@@ -96,6 +125,19 @@ rows =
     ∷ rounds (negℤ (pos 32768)) 65535 (negℤ (pos 1))
     ∷ rounds (pos 32767) 1 (pos 32767)
     ∷ rounds (pos 32767) 65535 (pos 0)
+    -- M-100: under a half, a half, and halves again
+    ∷ roundsCharge 19 0
+    ∷ roundsCharge 20 1
+    ∷ roundsCharge 60 2
+    ∷ roundsCharge 180 5
+    -- M-100, two slots with 20 × 1 and 4 × 5: two halves, each of which is rounded to 1; their sum, 40/40, would give 1
+    ∷ charges halvesBook halvesSheet (1 ∷ 5 ∷ []) (0 ∷ 0 ∷ 2 ∷ [])
+    -- M-100: a price too few, and one too many
+    ∷ charges halvesBook halvesSheet (1 ∷ []) (14 ∷ 0 ∷ 0 ∷ [])
+    ∷ charges halvesBook halvesSheet (1 ∷ 5 ∷ 5 ∷ []) (14 ∷ 0 ∷ 0 ∷ [])
+    -- M-100, two faults: 13 comes before 14, and the book's 7 before both
+    ∷ charges halvesBook [] [] (13 ∷ 0 ∷ 0 ∷ [])
+    ∷ charges (bytesOf "01010101000000640064\n020100010004FFFB\n") [] [] (7 ∷ 2 ∷ 0 ∷ [])
     -- an edge, two faults on one line: a byte G and kind 03, and 2 comes before 3
     ∷ prints "030G\n" "FF020001\n"
     -- an edge, the same: 5 slots and no limit, and 4 comes before 5
@@ -142,10 +184,13 @@ rows =
     -- star 11: |Q| = P is read, |Q| = P + 1 is refused
     ∷ reads "01010101000000640064\n020100010004FFFC\n"
     ∷ prints "01010101000000640064\n020100010004FFFB\n" "FF070002\n"
+    -- M-100: the largest charge
+    ∷ charges fullBook fullSheet (65535 ∷ 65535 ∷ 65535 ∷ 65535 ∷ []) (0 ∷ 0 ∷ 10307606940 ∷ [])
     ∷ []
 
 pub table-holds : all holds rows ≡ true
 unfolding holds rows programOutput refusalLine plannerResult planSheet fittingBook sizeRules
     readBook readLoads headerRules loadRules someExceeds optionStart first isDigit digitValue digit valueFrom field digits signed unsigned lineLength
     slotsOf plan bestAdmitted cells trials reachedCount sheetBytes firstLine slotLines slotLine numbersOf quickResult quickSheet quickChoice takeIfFits sizeOf optionOne
+    chargeResult sheetCharge choiceCharge chargeOf rounded sheetChoice
 table-holds = refl

@@ -26,5 +26,6 @@ pub mod ValueLaws
 pub mod RaisedLaws
 pub mod HeldLaws
 pub mod RoundingLaws
+pub mod ChargeLaws
 pub mod ReadingLaws
 pub mod AcceptanceTable

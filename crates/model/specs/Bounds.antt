@@ -1,6 +1,6 @@
 -- Document 01's bounds and the sizes that follow from them, each number once. The code has them as constants of the types that they bound, and the
--- program's two in crate program.
-use Prim.Native.Nat.{ℕ, _*_, _+_}
+-- program's two in crate program. The largest charge follows from them too.
+use Prim.Native.Nat.{ℕ, _*_, _+_, _/_}
 
 -- "T is the number of slots (quarter hours), 1 to 4. N is the number of loads, 1 to 24. d, the fineness, is 1 to 64. o, the options (levels) of a
 -- load, is 1 to 3."
@@ -43,3 +43,7 @@ programBytes = 4096
 
 abbrev pub programWords : ℕ
 programWords = 6144
+
+-- the largest charge of document 02's M-100: all loads run with P = 65,535 in every slot, at the price 65,535
+abbrev pub mostCharge : ℕ
+mostCharge = mostSlots * (mostLoads * 65535 * 65535 / 40)

@@ -1,13 +1,13 @@
--- Refusals, their numbers, and "The first that applies is given" (document 01, "Refusals by number").
+-- Refusals, their numbers, and "The first that applies is given" (document 01, "Refusals by number"; from 14 on document 02).
 use Prim.Native.Nat.{ℕ}
 use mathlib.Core.Bool.{Bool, cond}
 use mathlib.Core.List.{List, [], _∷_}
 use Rattle.model.specs.declared.Refusal.{Refusal}
-use Rattle.model.specs.declared.Refusal.the-variants.{Unterminated, NotHex, WrongKind, SlotsOrOptionsOutOfRange, WrongLength, LoadsOrFinenessOutOfRange, ReactiveExceedsActive, TrailingBytes, TooManyCells, WorkTooSmall, BufferTooSmall, BudgetExceeded, ForeignSheet}
+use Rattle.model.specs.declared.Refusal.the-variants.{Unterminated, NotHex, WrongKind, SlotsOrOptionsOutOfRange, WrongLength, LoadsOrFinenessOutOfRange, ReactiveExceedsActive, TrailingBytes, TooManyCells, WorkTooSmall, BufferTooSmall, BudgetExceeded, ForeignSheet, WrongPriceCount}
 use Rattle.model.specs.declared.Finding.{Finding}
 use Rattle.model.specs.declared.Finding.the-variants.{Passed, Refused}
 
--- document 01's number; its word for each stands beside it
+-- the number; document 01's word, or document 02's request, stands beside it
 abbrev pub numberOf : Refusal → ℕ
 numberOf Unterminated = 1  -- torn
 numberOf NotHex = 2  -- smudged
@@ -22,6 +22,7 @@ numberOf WorkTooSmall = 10  -- cramped
 numberOf BufferTooSmall = 11  -- no sheet
 numberOf BudgetExceeded = 12  -- spent
 numberOf ForeignSheet = 13  -- foreign
+numberOf WrongPriceCount = 14  -- M-100
 
 -- a row of the table: whether it applies, and the refusal
 pub record Rule : Type 0 where

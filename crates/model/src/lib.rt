@@ -6,7 +6,7 @@ ghost use Rattle.model.specs.Answers.{successAnswer, refusalAnswer};
 ghost use Rattle.model.specs.Values.{loadValue, freshBook};
 ghost use mathlib.Core.List.{[]};
 
-// Why a call gives no result; specs/Refusals.antt has document 01's number and word of each.
+// Why a call gives no result; specs/Refusals.antt has the number of each, and document 01's word.
 pub enum Refusal {
     Unterminated,
     NotHex,
@@ -21,6 +21,7 @@ pub enum Refusal {
     BufferTooSmall,
     BudgetExceeded,
     ForeignSheet,
+    WrongPriceCount,
 }
 
 // What the table of refusals says: none applies, or the first that does.
@@ -44,6 +45,13 @@ pub struct Answer {
 pub struct SheetAnswer {
     pub answer: Answer,
     pub code: u64,
+}
+
+// What the charge of a plan answers: the charge, in hundredths of a unit of money, after the rest.
+#[repr(C)]
+pub struct ChargeAnswer {
+    pub answer: Answer,
+    pub charge: u64,
 }
 
 // A load: standing is its setting 0, its options are the settings after that. Setting c has worths[c] and, in slot s,
@@ -136,6 +144,7 @@ impl Refusal {
             Refusal::BufferTooSmall => 11,
             Refusal::BudgetExceeded => 12,
             Refusal::ForeignSheet => 13,
+            Refusal::WrongPriceCount => 14,
         }
     }
 }

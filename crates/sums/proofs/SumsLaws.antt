@@ -39,6 +39,9 @@ sum-small [] h s = omega arith
 sum-small (v ∷ c) h s =
     omega (arith, sum-small c (h .1) s, h .0 .active s, h .0 .reactive s, abs-plus (powerIn s v .q) (sumIn s c .q))
 
+pub active-sum : (c : Choice) → Every SettingSmall c → (s : ℕ) → sumIn s c .p ≤ 65535 * length c
+active-sum c h s = sum-small c h s .active
+
 pub reactive-sum : (c : Choice) → Every SettingSmall c → (s : ℕ) → natAbs (sumIn s c .q) ≤ 32768 * length c
 reactive-sum c h s = sum-small c h s .reactive
 
