@@ -12,50 +12,9 @@
 
 #include "jadeshuttle.h"
 #include "refusals.h"
+#include "sheets.hpp"
 
 namespace {
-
-// One slot line of a sheet, in tenths of a kW, kvar and kVA.
-struct Slot {
-    std::uint64_t active;
-    std::int64_t reactive;
-    std::uint64_t limit;
-};
-
-std::optional<std::string> contents(const char *name)
-{
-    std::FILE *file = std::fopen(name, "rb");
-    if (file == nullptr)
-        return std::nullopt;
-    std::string text;
-    char part[4096];
-    for (std::size_t got; (got = std::fread(part, 1, sizeof part, file)) > 0;)
-        text.append(part, got);
-    const bool failed = std::ferror(file) != 0;
-    std::fclose(file);
-    if (failed)
-        return std::nullopt;
-    return text;
-}
-
-// A string's data is never a null pointer, not even where the string is empty.
-const std::uint8_t *bytes(const std::string &text)
-{
-    return reinterpret_cast<const std::uint8_t *>(text.data());
-}
-
-// The number in the hexadecimal digits of an accepted book or sheet.
-std::uint64_t field(const std::string &text, std::size_t at, std::size_t digits)
-{
-    return std::stoull(text.substr(at, digits), nullptr, 16);
-}
-
-// The slot line that begins at a place: 05, P (8), Q (8, two's complement of 32 bits), S (4).
-Slot slot_at(const std::string &sheet, std::size_t at)
-{
-    const auto q = static_cast<std::int64_t>(field(sheet, at + 10, 8));
-    return {field(sheet, at + 2, 8), q < (1LL << 31) ? q : q - (1LL << 32), field(sheet, at + 18, 4)};
-}
 
 std::uint64_t apparent_squared(const Slot &slot)
 {
@@ -80,13 +39,6 @@ std::uint64_t root_up(std::uint64_t x)
 bool holds(const Slot &slot, std::uint64_t percent)
 {
     return 10'000 * apparent_squared(slot) <= percent * percent * slot.limit * slot.limit;
-}
-
-// A number of tenths, as "-12.3".
-std::string tenths(std::int64_t x)
-{
-    const std::int64_t size = x < 0 ? -x : x;
-    return (x < 0 ? "-" : "") + std::to_string(size / 10) + "." + std::to_string(size % 10);
 }
 
 // The apparent power in percent of the limit; none for the limit 0.
@@ -125,8 +77,7 @@ bool print_slots(const std::string &sheet, std::size_t slots, std::size_t loads,
     bool all = true;
     std::printf("slot       kW     kvar      kVA    limit        %%  relay at %d %%\n", static_cast<int>(percent));
     for (std::size_t s = 0; s < slots; s++) {
-        // The first line has 19 + 2N bytes, each slot line 23, both with their LF.
-        const Slot slot = slot_at(sheet, 19 + 2 * loads + 23 * s);
+        const Slot slot = slot_on(sheet, loads, s);
         const bool held = holds(slot, percent);
         print_slot(s + 1, slot, held);
         all = all && held;
@@ -148,40 +99,23 @@ int check(const std::string &book, const std::string &sheet, std::uint64_t perce
     return print_slots(sheet, slots, loads, percent) ? 0 : 3;
 }
 
-// A whole percent from 1 to 1000.
-std::optional<std::uint64_t> percent_in(const std::string &text)
-{
-    if (text.empty() || text.size() > 4 || text.find_first_not_of("0123456789") != std::string::npos)
-        return std::nullopt;
-    const std::uint64_t percent = std::stoull(text);
-    if (percent < 1 || percent > 1000)
-        return std::nullopt;
-    return percent;
-}
-
-int own_error(const char *name, const char *what)
-{
-    std::fprintf(stderr, "check: %s: %s\n", name, what);
-    return 2;
-}
-
 }  // namespace
 
 int main(int argc, char **argv)
 {
-    const auto percent = percent_in(argc == 4 ? argv[3] : "100");
-    if (argc < 3 || argc > 4 || !percent) {
+    const auto percent = number_in(argc == 4 ? argv[3] : "100", 1000);
+    if (argc < 3 || argc > 4 || !percent || *percent == 0) {
         std::fputs("usage: check BOOK SHEET [PERCENT]\n", stderr);
         return 2;
     }
     const auto book = contents(argv[1]);
     if (!book)
-        return own_error(argv[1], "cannot be read");
+        return own_error("check", argv[1], "cannot be read");
     const auto sheet = contents(argv[2]);
     if (!sheet)
-        return own_error(argv[2], "cannot be read");
+        return own_error("check", argv[2], "cannot be read");
     const int status = check(*book, *sheet, *percent);
     if (std::fflush(stdout) != 0)
-        return own_error("standard output", "cannot be written");
+        return own_error("check", "standard output", "cannot be written");
     return status;
 }

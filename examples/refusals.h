@@ -23,6 +23,7 @@ static inline const char *refusal_word(uint64_t number)
     case JADESHUTTLE_BUFFER_TOO_SMALL: return "no sheet";
     case JADESHUTTLE_BUDGET_EXCEEDED: return "spent";
     case JADESHUTTLE_FOREIGN_SHEET: return "foreign";
+    case JADESHUTTLE_WRONG_PRICE_COUNT: return "prices";
     default: return "unknown";
     }
 }

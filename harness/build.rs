@@ -46,8 +46,9 @@ fn declarations(project: &Path) -> Parsed<String> {
     for (name, value) in abi::sizes(&model)? {
         text += &format!("pub const {name}: usize = {value};\n");
     }
+    let plain = abi::fields(&model, "Answer")?;
     for known in abi::structs(&calls) {
-        text += &structure(&known, &abi::fields(&model, known.rattle)?);
+        text += &structure(&known, &abi::fields(&model, known.rattle)?, &plain);
     }
     let foreign: String = calls.iter().map(foreign_function).collect();
     text += &format!("extern \"C\" {{\n{foreign}}}\n");
@@ -55,12 +56,18 @@ fn declarations(project: &Path) -> Parsed<String> {
     Ok(text)
 }
 
-fn structure(known: &Struct, fields: &[String]) -> String {
-    let fields: String = fields.iter().map(|field| format!("    pub {field}: u64,\n")).collect();
+/// The struct, and its numbers: the plain answer's, and those that follow them.
+fn structure(known: &Struct, fields: &[String], plain: &[String]) -> String {
+    let name = known.rust;
+    let declared: String = fields.iter().map(|field| format!("    pub {field}: u64,\n")).collect();
     let derived = "Clone, Copy, Debug, Default, PartialEq, Eq";
+    let first: String = plain.iter().map(|field| format!("{field}: given.{field}, ")).collect();
+    let further = fields.iter().filter(|field| !plain.contains(field));
+    let further: String = further.map(|field| format!("given.{field}, ")).collect();
     format!(
-        "#[repr(C)]\n#[derive({derived})]\npub struct {} {{\n{fields}}}\n",
-        known.rust
+        "#[repr(C)]\n#[derive({derived})]\npub struct {name} {{\n{declared}}}\n\
+         impl From<{name}> for Numbers {{\n    fn from(given: {name}) -> Numbers {{\n        \
+         Numbers {{ first: Answer {{ {first}}}, further: vec![{further}] }}\n    }}\n}}\n"
     )
 }
 

@@ -1,11 +1,12 @@
 /*
  * jadeshuttle.h - the load planner, for programs in C99 and C++.
  *
- * Three calls. Each takes a load book and gives an answer by value:
+ * Each call takes a load book and gives an answer by value:
  *
  *   jadeshuttle_plan        the planner: writes the sheet of the best plan
  *   jadeshuttle_quick       the quick planner: level 1 only, smallest loads first
  *   jadeshuttle_read_sheet  the sheet reader: whether a sheet belongs to a book
+ *   jadeshuttle_charge      the charge: what a sheet's energy costs
  *
  * docs/HANDBOOK.md describes the book and the sheet field by field, what the
  * limits mean for a relay, and how large a work area a book needs.
@@ -16,14 +17,14 @@
  * MEMORY THAT YOU LEND
  *   - A call uses the memory only until it returns. It keeps no pointer.
  *   - Lengths are in elements: bytes for a book and a sheet, 64-bit words for the
- *     work area.
+ *     work area, 16-bit numbers for prices.
  *   - No pointer may be NULL, not even where its length is 0. `work` is aligned
- *     as a uint64_t is.
+ *     as a uint64_t is, `prices` as a uint16_t.
  *   - All the bytes that a length names are yours to lend. No length names more
  *     than PTRDIFF_MAX bytes.
  *   - What is written may overlap nothing else: `work` and `sheet` lie apart from
- *     each other and from `book`. The sheet reader writes nothing, so its two
- *     arguments may overlap.
+ *     each other and from `book`. The sheet reader and the charge write nothing,
+ *     so their arguments may overlap.
  *   - `work` and `sheet` need no first values. No answer depends on them.
  *
  * The calls cannot test these points. Where one is broken, nothing is promised.
@@ -37,14 +38,15 @@
  *   - The work area: with a sheet or refusal 12, the first 4 x cells words hold
  *     anything, and the words past them keep their values. With refusals 1 to 11
  *     no word changes.
- *   - The book never changes.
+ *   - The book never changes, nor does what the sheet reader and the charge are
+ *     lent.
  *
  * THREADS  There is no state. Calls may run at the same time in several threads,
  * as long as each has its own `work` and `sheet`. They may share a book.
  *
  * STACK, HEAP  Nothing is allocated. Stack used by a call, as measured on x86-64
- * Linux: planner up to 79 KiB, quick planner up to 55 KiB, sheet reader up to 34
- * KiB. Leave 128 KiB of stack for a call.
+ * Linux: planner up to 79 KiB, quick planner up to 55 KiB, sheet reader and charge
+ * up to 34 KiB. Leave 128 KiB of stack for a call.
  *
  * ERRORS  A call always returns. It prints nothing, and sets no errno.
  */
@@ -66,13 +68,13 @@ extern "C" {
 
 /*
  * What `number` says. Lines are read in order, and on each line 1 to 7 are tried
- * in this order, as far as they concern it; then 8 to 13. The first that applies
+ * in this order, as far as they concern it; then 8 to 14. The first that applies
  * is given. `line` is the number of the line in the book, from 1, for 1 to 8; it
- * is 0 for success and for 9 to 13. Each comment begins with the handbook's word.
+ * is 0 for success and from 9 on. Each comment begins with the handbook's word.
  */
 enum jadeshuttle_number {
     JADESHUTTLE_SUCCESS = 0,
-    /* All three calls: the book. */
+    /* All calls: the book. */
     JADESHUTTLE_UNTERMINATED = 1,                   /* torn: a line is due and no LF follows */
     JADESHUTTLE_NOT_HEX = 2,                        /* smudged: a byte of the line is no digit 0-9 A-F */
     JADESHUTTLE_WRONG_KIND = 3,                     /* stray: fewer than 4 digits, or kind not the one due */
@@ -88,8 +90,10 @@ enum jadeshuttle_number {
     JADESHUTTLE_BUFFER_TOO_SMALL = 11, /* no sheet: buffer shorter than the sheet */
     /* The planner only. */
     JADESHUTTLE_BUDGET_EXCEEDED = 12, /* spent: trials over the budget */
-    /* The sheet reader only. */
-    JADESHUTTLE_FOREIGN_SHEET = 13 /* foreign: no choice and no trials number give this sheet for this book */
+    /* The sheet reader and the charge. */
+    JADESHUTTLE_FOREIGN_SHEET = 13, /* foreign: no choice and no trials number give this sheet for this book */
+    /* The charge only. */
+    JADESHUTTLE_WRONG_PRICE_COUNT = 14 /* prices: their number is not T */
 };
 
 /* What the planners answer. With a refusal, bytes, worth and trials are 0. */
@@ -110,6 +114,16 @@ typedef struct jadeshuttle_reading {
     uint64_t trials; /* the trials that the sheet states; not compared with the book's */
     uint64_t code;   /* the choice: load k has level (code >> 2 * (k - 1)) & 3, and 0 is standing */
 } jadeshuttle_reading;
+
+/* What the charge answers. With a refusal, all after line is 0. */
+typedef struct jadeshuttle_charge_answer {
+    uint64_t number;
+    uint64_t line;
+    uint64_t bytes;  /* always 0: nothing is written */
+    uint64_t worth;  /* always 0: nothing is planned */
+    uint64_t trials; /* always 0 */
+    uint64_t charge; /* in hundredths of a unit of money; at most 10,307,606,940 */
+} jadeshuttle_charge_answer;
 
 /*
  * The planner. Writes the sheet of the plan: the admitted choice of greatest
@@ -149,6 +163,18 @@ jadeshuttle_answer jadeshuttle_quick(const uint8_t *book, size_t book_len,
  */
 jadeshuttle_reading jadeshuttle_read_sheet(const uint8_t *book, size_t book_len,
                                            const uint8_t *sheet, size_t sheet_len);
+
+/*
+ * The charge for the plan on a sheet. `prices` has one price for each slot, in
+ * hundredths of a unit of money per kWh. A slot is a quarter hour, and P is in
+ * tenths of a kW: with P its sum on the sheet, a slot costs P * price / 40
+ * hundredths, rounded to the nearest hundredth, exact halves upward. The charge is
+ * the sum over the slots. The sheet has to belong to the book, as for the sheet
+ * reader. Gives 1 to 8 for the book, 13, and then 14.
+ */
+jadeshuttle_charge_answer jadeshuttle_charge(const uint8_t *book, size_t book_len,
+                                             const uint8_t *sheet, size_t sheet_len,
+                                             const uint16_t *prices, size_t prices_len);
 
 #ifdef __cplusplus
 }

@@ -19,9 +19,10 @@ const NUMBERS: [Number; 5] = [
 ];
 
 /// The structs that a call can give: their names in Rattle, in Rust and in C.
-const STRUCTS: [Struct; 2] = [
+const STRUCTS: [Struct; 3] = [
     structure("Answer", "Answer", "jadeshuttle_answer"),
     structure("SheetAnswer", "Reading", "jadeshuttle_reading"),
+    structure("ChargeAnswer", "ChargeAnswer", "jadeshuttle_charge_answer"),
 ];
 
 #[derive(Clone, Copy, Debug, PartialEq, Eq)]

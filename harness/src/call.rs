@@ -3,7 +3,7 @@
 use crate::damage::plausible;
 use crate::random::Random;
 use crate::reference::Outcome;
-use crate::Reading;
+use crate::Numbers;
 use std::ops::BitXorAssign;
 
 /// Memory lent to a call: a part of a larger vector, with what all of it held before.
@@ -16,7 +16,8 @@ pub struct Lent<T> {
 }
 
 impl<T: Copy + PartialEq> Lent<T> {
-    /// Lends `content` with guards drawn around it; now and then without, so that a memory checker sees its bounds.
+    /// Lends `content` with guards drawn around it; now and then without, so that a memory checker sees its bounds. Guards
+    /// of bytes look like more of the same, so that reading past an end shows in the answer.
     fn new(random: &mut Random, content: &[T], draw: fn(&mut Random) -> T) -> Lent<T> {
         let guard = if random.one_in(4) { 0 } else { 1 + random.below(40) };
         let mut before = Vec::with_capacity(content.len() + 2 * guard);
@@ -50,7 +51,7 @@ impl<T: Copy + PartialEq> Lent<T> {
             .map(|i| i as isize - self.start as isize)
     }
 
-    pub fn has_guards(&self) -> bool {
+    fn has_guards(&self) -> bool {
         self.start > 0
     }
 }
@@ -68,20 +69,57 @@ impl<T: BitXorAssign + From<u8>> Lent<T> {
     }
 }
 
-/// Book or sheet bytes. The guards look like more of the same, so that reading past an end shows in the answer.
-pub fn lend_bytes(random: &mut Random, content: &[u8]) -> Lent<u8> {
-    Lent::new(random, content, plausible)
-}
-
-pub fn lend_words(random: &mut Random, content: &[u64]) -> Lent<u64> {
-    Lent::new(random, content, Random::word)
-}
-
 #[derive(Clone, Copy, Debug, PartialEq, Eq)]
 pub enum Function {
     Plan,
     Quick,
     ReadSheet,
+    Charge,
+}
+
+/// A function and what it is given; nothing of what it does not take. `sheet` is a sheet that is read, or a buffer.
+#[derive(Clone, Copy)]
+pub struct Input<'a> {
+    pub function: Function,
+    pub book: &'a [u8],
+    pub words: &'a [u64],
+    pub sheet: &'a [u8],
+    pub prices: &'a [u16],
+}
+
+impl<'a> Input<'a> {
+    pub fn plan(book: &'a [u8], words: &'a [u64], sheet: &'a [u8]) -> Input<'a> {
+        Input {
+            function: Function::Plan,
+            words,
+            ..Input::quick(book, sheet)
+        }
+    }
+
+    pub fn quick(book: &'a [u8], sheet: &'a [u8]) -> Input<'a> {
+        Input {
+            function: Function::Quick,
+            book,
+            words: &[],
+            sheet,
+            prices: &[],
+        }
+    }
+
+    pub fn read_sheet(book: &'a [u8], sheet: &'a [u8]) -> Input<'a> {
+        Input {
+            function: Function::ReadSheet,
+            ..Input::quick(book, sheet)
+        }
+    }
+
+    pub fn charge(book: &'a [u8], sheet: &'a [u8], prices: &'a [u16]) -> Input<'a> {
+        Input {
+            function: Function::Charge,
+            prices,
+            ..Input::quick(book, sheet)
+        }
+    }
 }
 
 /// A call that was made, and all memory that it could reach.
@@ -91,24 +129,36 @@ pub struct Call {
     pub book: Lent<u8>,
     pub work: Lent<u64>,
     pub sheet: Lent<u8>,
-    pub answer: Reading,
+    pub prices: Lent<u16>,
+    pub answer: Numbers,
 }
 
 impl Call {
-    /// Makes the call.
-    pub fn new(function: Function, book: Lent<u8>, mut work: Lent<u64>, mut sheet: Lent<u8>) -> Call {
-        let answer = match function {
+    /// Makes the call, with guards around what is lent.
+    pub fn new(random: &mut Random, input: Input) -> Call {
+        let book = Lent::new(random, input.book, plausible);
+        let mut work = Lent::new(random, input.words, Random::word);
+        let mut sheet = Lent::new(random, input.sheet, plausible);
+        let prices = Lent::new(random, input.prices, |random| random.word() as u16);
+        let answer = match input.function {
             Function::Plan => crate::plan(book.part(), work.part_mut(), sheet.part_mut()).into(),
             Function::Quick => crate::quick(book.part(), sheet.part_mut()).into(),
-            Function::ReadSheet => crate::read_sheet(book.part(), sheet.part()),
+            Function::ReadSheet => crate::read_sheet(book.part(), sheet.part()).into(),
+            Function::Charge => crate::charge(book.part(), sheet.part(), prices.part()).into(),
         };
         Call {
-            function,
+            function: input.function,
             book,
             work,
             sheet,
+            prices,
             answer,
         }
+    }
+
+    /// Whether everything that is lent has guards.
+    pub fn has_guards(&self) -> bool {
+        self.book.has_guards() && self.work.has_guards() && self.sheet.has_guards() && self.prices.has_guards()
     }
 
     /// Everything in which the call left something else than it has to.
@@ -127,6 +177,7 @@ impl Call {
             ("book", self.book.change(0)),
             ("sheet buffer", self.sheet.change(written)),
             ("work area", self.work.change(expected.free_words)),
+            ("prices", self.prices.change(0)),
         ];
         for (name, change) in changes {
             complaints.extend(change.map(|at| format!("{name}: changed at {at}")));
@@ -138,10 +189,12 @@ impl Call {
     pub fn input(&self) -> String {
         let start = format!("{:?}, book \"{}\"", self.function, self.book.part().escape_ascii());
         let (words, bytes) = (self.work.part().len(), self.sheet.part().len());
+        let sheet = self.sheet.part().escape_ascii();
         match self.function {
             Function::Plan => format!("{start}, {words} words, buffer of {bytes}"),
             Function::Quick => format!("{start}, buffer of {bytes}"),
-            Function::ReadSheet => format!("{start}, sheet \"{}\"", self.sheet.part().escape_ascii()),
+            Function::ReadSheet => format!("{start}, sheet \"{sheet}\""),
+            Function::Charge => format!("{start}, sheet \"{sheet}\", prices {:?}", self.prices.part()),
         }
     }
 }

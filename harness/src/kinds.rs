@@ -15,7 +15,7 @@ pub struct Kind {
 }
 
 pub const KINDS: &[Kind] = &[
-    kind("small books", 1_080, small_books),
+    kind("small books", 980, small_books),
     kind("larger grids", 100, larger_grids),
     kind("many loads", 150, many_loads),
     kind("large tables", 20, large_tables),
@@ -29,7 +29,7 @@ pub const KINDS: &[Kind] = &[
     kind("one fault", 800, one_fault),
     kind("two faults", 600, two_faults),
     kind("truncated books", 900, truncated_books),
-    kind("a byte changed", 1_800, changed_books),
+    kind("a byte changed", 1_600, changed_books),
     kind("bytes inserted, deleted", 300, shifted_books),
     kind("lines exchanged", 200, reordered_books),
     kind("random bytes", 100, random_bytes),
@@ -39,6 +39,8 @@ pub const KINDS: &[Kind] = &[
     kind("sheets, cut or longer", 150, cut_sheets),
     kind("sheets of other books", 50, foreign_sheets),
     kind("sheets, level above o", 48, levels_above),
+    kind("charges", 200, charges),
+    kind("numbers of prices", 100, price_counts),
 ];
 
 const fn kind(name: &'static str, share: u64, run: fn(&mut Session)) -> Kind {
@@ -105,7 +107,17 @@ fn random_sheet(random: &mut Random, book: &Book) -> Vec<u8> {
     sheet::write(book, &choice, trials)
 }
 
-/// The three calls on a valid book, with more lent than is needed.
+/// A price: often one at which an odd sum of P gives an exact half.
+fn price(random: &mut Random) -> u16 {
+    let any = random.word() as u16;
+    random.pick(&[0, 1, 2, 20, 20, 60, 100, any, any, u16::MAX])
+}
+
+fn prices(random: &mut Random, count: usize) -> Vec<u16> {
+    (0..count).map(|_| price(random)).collect()
+}
+
+/// All calls on a valid book, with more lent than is needed.
 fn all_calls(session: &mut Session, case: &Case) {
     let Ok(book) = &case.book else { return };
     let words = 4 * case.cells() as usize + session.random.below(50);
@@ -113,12 +125,15 @@ fn all_calls(session: &mut Session, case: &Case) {
     session.plan(case, words, buffer);
     session.quick(case, buffer);
     let plan = case.planned();
-    session.read_sheet(case, &sheet::write(book, &plan.choice, plan.trials));
+    let planned = sheet::write(book, &plan.choice, plan.trials);
+    session.read_sheet(case, &planned);
     session.read_sheet(case, &case.quick(buffer).sheet);
+    let prices = prices(&mut session.random, book.limits.len());
+    session.charge(case, &planned, &prices);
 }
 
-/// The three calls on bytes that may be no book.
-const CALLS: [fn(&mut Session, &Case); 3] = [plan_any, quick_any, read_any];
+/// The calls on bytes that may be no book.
+const CALLS: [fn(&mut Session, &Case); 4] = [plan_any, quick_any, read_any, charge_any];
 
 fn one_call(session: &mut Session, case: &Case) {
     let call = session.random.pick(&CALLS);
@@ -143,15 +158,26 @@ fn quick_any(session: &mut Session, case: &Case) {
 }
 
 fn read_any(session: &mut Session, case: &Case) {
-    let random = &mut session.random;
-    let sheet = match &case.book {
+    let sheet = any_sheet(&mut session.random, case);
+    session.read_sheet(case, &sheet);
+}
+
+fn charge_any(session: &mut Session, case: &Case) {
+    let sheet = any_sheet(&mut session.random, case);
+    let count = session.random.below(6);
+    let prices = prices(&mut session.random, count);
+    session.charge(case, &sheet, &prices);
+}
+
+/// A sheet of a book that was read, or else bytes.
+fn any_sheet(random: &mut Random, case: &Case) -> Vec<u8> {
+    match &case.book {
         Ok(book) => random_sheet(random, book),
         Err(_) => {
             let bytes = case.sheet_bytes() + random.below(20);
             (0..bytes).map(|_| plausible(random)).collect()
         }
-    };
-    session.read_sheet(case, &sheet);
+    }
 }
 
 fn small_books(session: &mut Session) {
@@ -275,7 +301,7 @@ fn faulty_book(session: &mut Session, faults: usize) {
     (0..3).for_each(|_| one_call(session, &case));
 }
 
-/// Every length that a book can be cut to, each in the three calls.
+/// Every length that a book can be cut to, in each call.
 fn truncated_books(session: &mut Session) {
     let text = draw::text(&draw::book(&mut session.random, SMALL));
     for length in 0..text.len() {
@@ -283,7 +309,7 @@ fn truncated_books(session: &mut Session) {
     }
 }
 
-/// Every byte of a book changed in turn, in one style, each change in the three calls.
+/// Every byte of a book changed in turn, in one style, each change in each call.
 fn changed_books(session: &mut Session) {
     let text = draw::text(&draw::book(&mut session.random, SMALL));
     let style = session.random.below(STYLES);
@@ -389,4 +415,26 @@ fn levels_above(session: &mut Session) {
     let c = session.random.pick(&[above, 3, 4, 5, 7, 8, 16, 255]);
     sheet[18 + 2 * k..20 + 2 * k].copy_from_slice(format!("{c:02X}").as_bytes());
     session.read_sheet(&case, &sheet);
+}
+
+/// Charges of sheets of any choice, with a price for each slot.
+fn charges(session: &mut Session) {
+    let case = drawn(session, MANY);
+    let Ok(book) = &case.book else { return };
+    for _ in 0..5 {
+        let sheet = random_sheet(&mut session.random, book);
+        let prices = prices(&mut session.random, book.limits.len());
+        session.charge(&case, &sheet, &prices);
+    }
+}
+
+/// Any number of prices, with a sheet of the book and with a foreign one: 13 comes before 14.
+fn price_counts(session: &mut Session) {
+    let (case, sheet) = case_and_sheet(session);
+    let foreign = sheet::write(case.book.as_ref().expect("a valid book"), &[], 0);
+    for count in 0..=5 {
+        let prices = prices(&mut session.random, count);
+        session.charge(&case, &sheet, &prices);
+        session.charge(&case, &foreign, &prices);
+    }
 }

@@ -14,20 +14,14 @@ pub mod session;
 pub mod table;
 pub mod trials;
 
-// The archive's calls as functions on slices: `plan` (jadeshuttle_plan), `quick` (jadeshuttle_quick) and `read_sheet`
-// (jadeshuttle_read_sheet); their answers, and the largest sizes. `build.rs` writes them.
+// The archive's calls as functions on slices: `plan` (jadeshuttle_plan), `quick` (jadeshuttle_quick), `read_sheet`
+// (jadeshuttle_read_sheet) and `charge` (jadeshuttle_charge); their answers, and the largest sizes. `build.rs` writes them.
 include!(concat!(env!("OUT_DIR"), "/declarations.rs"));
 
-/// A planner's answer in the reader's form, so that one comparison serves all calls.
-impl From<Answer> for Reading {
-    fn from(answer: Answer) -> Reading {
-        Reading {
-            number: answer.number,
-            line: answer.line,
-            bytes: answer.bytes,
-            worth: answer.worth,
-            trials: answer.trials,
-            code: 0,
-        }
-    }
+/// The numbers of any call's answer, so that one comparison serves all calls: the five that each answer begins with, and
+/// those that follow them.
+#[derive(Clone, Debug, Default, PartialEq, Eq)]
+pub struct Numbers {
+    pub first: Answer,
+    pub further: Vec<u64>,
 }

@@ -1,12 +1,14 @@
-//! Document 01 in plain Rust, written from its text, for the archive's calls to be compared with.
+//! Documents 01 and 02 in plain Rust, written from their text, for the archive's calls to be compared with.
 
 pub mod book;
+pub mod charge;
 pub mod grid;
 pub mod plan;
 pub mod quick;
 pub mod sheet;
 
-use crate::Reading;
+use crate::call::{Function, Input};
+use crate::{Answer, Numbers};
 use book::{code, Book};
 use plan::{by_enumeration, by_map, Plan, ENUMERATED};
 use std::cell::OnceCell;
@@ -27,12 +29,12 @@ pub struct Refusal {
 /// of words at the start of the work area that may hold anything afterwards.
 #[derive(Clone, Debug, Default)]
 pub struct Outcome {
-    pub answer: Reading,
+    pub answer: Numbers,
     pub sheet: Vec<u8>,
     pub free_words: usize,
 }
 
-/// The bytes of a book, right or wrong, and what the three calls have to leave for it.
+/// The bytes of a book, right or wrong, and what the calls have to leave for it.
 pub struct Case {
     pub text: Vec<u8>,
     pub book: Result<Book, Refusal>,
@@ -94,17 +96,26 @@ impl Case {
         self.book.as_ref().map_or(0, sheet::length)
     }
 
+    /// What a call on this book has to leave.
+    pub fn outcome(&self, input: Input) -> Outcome {
+        match input.function {
+            Function::Plan => self.plan(input.words.len(), input.sheet.len()),
+            Function::Quick => self.quick(input.sheet.len()),
+            Function::ReadSheet => self.read_sheet(input.sheet),
+            Function::Charge => self.charge(input.sheet, input.prices),
+        }
+    }
+
     pub fn plan(&self, words: usize, buffer: usize) -> Outcome {
-        let outcome = self.plan_or_refusal(words, buffer);
-        let mut outcome = outcome.unwrap_or_else(refused);
-        if [0, 12].contains(&outcome.answer.number) {
+        let mut outcome = self.plan_or_refusal(words, buffer).unwrap_or_else(refused::<0>);
+        if [0, 12].contains(&outcome.answer.first.number) {
             outcome.free_words = 4 * self.cells() as usize;
         }
         outcome
     }
 
     fn plan_or_refusal(&self, words: usize, buffer: usize) -> Result<Outcome, Refusal> {
-        let book = self.book.as_ref().map_err(|refusal| *refusal)?;
+        let book = self.read()?;
         refuse_if(self.cells() > MOST_CELLS, 9)?;
         refuse_if((words as u128) < 4 * self.cells(), 10)?;
         refuse_if(buffer < self.sheet_bytes(), 11)?;
@@ -114,33 +125,51 @@ impl Case {
     }
 
     pub fn quick(&self, buffer: usize) -> Outcome {
-        self.quick_or_refusal(buffer).unwrap_or_else(refused)
+        self.quick_or_refusal(buffer).unwrap_or_else(refused::<0>)
     }
 
     fn quick_or_refusal(&self, buffer: usize) -> Result<Outcome, Refusal> {
-        let book = self.book.as_ref().map_err(|refusal| *refusal)?;
+        let book = self.read()?;
         refuse_if(buffer < self.sheet_bytes(), 11)?;
         Ok(written(book, &quick::choice(book), book.loads.len() as u64))
     }
 
     pub fn read_sheet(&self, sheet: &[u8]) -> Outcome {
-        self.reading_or_refusal(sheet).unwrap_or_else(refused)
+        self.reading_or_refusal(sheet).unwrap_or_else(refused::<1>)
     }
 
     fn reading_or_refusal(&self, sheet: &[u8]) -> Result<Outcome, Refusal> {
-        let book = self.book.as_ref().map_err(|refusal| *refusal)?;
+        let (book, choice, trials) = self.read_with(sheet)?;
+        let worth = book.worth(&choice);
+        let first = Answer {
+            worth,
+            trials,
+            ..Answer::default()
+        };
+        Ok(answered(first, vec![code(&choice)]))
+    }
+
+    pub fn charge(&self, sheet: &[u8], prices: &[u16]) -> Outcome {
+        self.charge_or_refusal(sheet, prices).unwrap_or_else(refused::<1>)
+    }
+
+    fn charge_or_refusal(&self, sheet: &[u8], prices: &[u16]) -> Result<Outcome, Refusal> {
+        let (book, choice, _) = self.read_with(sheet)?;
+        refuse_if(prices.len() != book.limits.len(), 14)?;
+        Ok(answered(Answer::default(), vec![charge::of(book, &choice, prices)]))
+    }
+
+    /// The book, after refusals 1 to 8.
+    fn read(&self) -> Result<&Book, Refusal> {
+        self.book.as_ref().map_err(|refusal| *refusal)
+    }
+
+    /// The book, and the choice and trials on a sheet of it; after refusals 1 to 8 and 13.
+    fn read_with(&self, sheet: &[u8]) -> Result<(&Book, Vec<usize>, u64), Refusal> {
+        let book = self.read()?;
         let foreign_sheet = Refusal { number: 13, line: 0 };
         let (choice, trials) = sheet::read(book, sheet).ok_or(foreign_sheet)?;
-        let answer = Reading {
-            worth: book.worth(&choice),
-            trials,
-            code: code(&choice),
-            ..Reading::default()
-        };
-        Ok(Outcome {
-            answer,
-            ..Outcome::default()
-        })
+        Ok((book, choice, trials))
     }
 }
 
@@ -148,34 +177,39 @@ fn refuse_if(applies: bool, number: u64) -> Result<(), Refusal> {
     (!applies).then_some(()).ok_or(Refusal { number, line: 0 })
 }
 
-fn refused(refusal: Refusal) -> Outcome {
-    let answer = Reading {
+/// A refusal of a call whose answer has so many numbers after the first five: they are 0.
+fn refused<const FURTHER: usize>(refusal: Refusal) -> Outcome {
+    let first = Answer {
         number: refusal.number,
         line: refusal.line,
-        ..Reading::default()
+        ..Answer::default()
     };
+    answered(first, vec![0; FURTHER])
+}
+
+/// Of a call that writes nothing.
+fn answered(first: Answer, further: Vec<u64>) -> Outcome {
     Outcome {
-        answer,
+        answer: Numbers { first, further },
         ..Outcome::default()
     }
 }
 
 fn written(book: &Book, choice: &[usize], trials: u64) -> Outcome {
     let sheet = sheet::write(book, choice, trials);
-    let answer = Reading {
+    let first = Answer {
         bytes: sheet.len() as u64,
         worth: book.worth(choice),
         trials,
-        ..Reading::default()
+        ..Answer::default()
     };
     Outcome {
-        answer,
         sheet,
-        free_words: 0,
+        ..answered(first, Vec::new())
     }
 }
 
-/// The cases of "Trials at the bench"; those of steps and grid values stand in `grid`.
+/// The cases of "Trials at the bench"; those of steps and grid values stand in `grid`, those of document 02 with their part.
 #[cfg(test)]
 mod tests {
     use super::*;
@@ -187,7 +221,7 @@ mod tests {
     }
 
     fn refused_at(text: &str) -> (u64, u64) {
-        let answer = Case::new(text.into()).plan(ENOUGH, ENOUGH).answer;
+        let answer = Case::new(text.into()).plan(ENOUGH, ENOUGH).answer.first;
         (answer.number, answer.line)
     }
 
@@ -195,7 +229,7 @@ mod tests {
     fn the_bench_book() {
         let outcome = Case::new(EXAMPLE.to_vec()).plan(ENOUGH, ENOUGH);
         assert_eq!(outcome.sheet, b"040000000A0000000E010100\n050000000900000001000A\n");
-        assert_eq!((outcome.answer.worth, outcome.answer.trials), (10, 14));
+        assert_eq!((outcome.answer.first.worth, outcome.answer.first.trials), (10, 14));
     }
 
     #[test]
@@ -207,7 +241,7 @@ mod tests {
     #[test]
     fn budgets() {
         let case = Case::new(EXAMPLE.to_vec());
-        let number = |budget| case.with_budget(budget).plan(ENOUGH, ENOUGH).answer.number;
+        let number = |budget| case.with_budget(budget).plan(ENOUGH, ENOUGH).answer.first.number;
         assert_eq!((number(14), number(13)), (0, 12));
     }
 
@@ -241,10 +275,9 @@ mod tests {
         let case = Case::new(EXAMPLE.to_vec());
         let sheet = case.plan(ENOUGH, ENOUGH).sheet;
         let answer = case.read_sheet(&sheet).answer;
-        assert_eq!(
-            (answer.number, answer.code, answer.worth, answer.trials),
-            (0, 5, 10, 14)
-        );
-        assert_eq!(case.read_sheet(&sheet[1..]).answer.number, 13);
+        let first = answer.first;
+        assert_eq!((first.number, first.worth, first.trials), (0, 10, 14));
+        assert_eq!(answer.further, [5]);
+        assert_eq!(case.read_sheet(&sheet[1..]).answer.first.number, 13);
     }
 }

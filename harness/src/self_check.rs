@@ -1,6 +1,6 @@
 //! Shows that the comparison can fail: calls that went right are altered in one place each, which must be reported.
 
-use crate::call::{lend_bytes, lend_words, Call, Function};
+use crate::call::{Call, Function, Input};
 use crate::kinds;
 use crate::random::Random;
 use crate::reference::{Case, Outcome, EXAMPLE};
@@ -23,14 +23,19 @@ struct Base {
 /// An alteration of a call.
 type Alteration = (&'static str, fn(&mut Call));
 
-/// The fields of the answer.
+/// The fields of the answer that every call has.
 const FIELDS: &[Alteration] = &[
-    ("number", |call| call.answer.number ^= 1),
-    ("line", |call| call.answer.line ^= 1),
-    ("bytes", |call| call.answer.bytes ^= 1),
-    ("worth", |call| call.answer.worth ^= 1),
-    ("trials", |call| call.answer.trials ^= 1),
-    ("code", |call| call.answer.code ^= 1),
+    ("number", |call| call.answer.first.number ^= 1),
+    ("line", |call| call.answer.first.line ^= 1),
+    ("bytes", |call| call.answer.first.bytes ^= 1),
+    ("worth", |call| call.answer.first.worth ^= 1),
+    ("trials", |call| call.answer.first.trials ^= 1),
+];
+
+/// For calls whose answer has more: the sheet reader's code, the charge.
+const FURTHER: &[Alteration] = &[
+    ("further number", |call| call.answer.further[0] ^= 1),
+    ("no further number", |call| call.answer.further.clear()),
 ];
 
 /// The memory that was lent and around it.
@@ -46,7 +51,12 @@ const MEMORY: &[Alteration] = &[
     ("book byte", |call| call.book.flip(0)),
     ("byte before the book", |call| call.book.flip(-1)),
     ("byte past the book", |call| call.book.flip_from_end(0)),
+    ("price before the prices", |call| call.prices.flip(-1)),
+    ("price past the prices", |call| call.prices.flip_from_end(0)),
 ];
+
+/// For the charge alone.
+const PRICES: &[Alteration] = &[("first price", |call| call.prices.flip(0))];
 
 /// For the planner alone: words of the work area that no call may change.
 const KEPT_WORDS: &[Alteration] = &[
@@ -100,13 +110,16 @@ pub fn run() -> Checks {
 
 fn check_base(checks: &mut Checks, base: &Base) {
     checks.reported(base, &("nothing", |_| ()), false);
-    for alteration in FIELDS.iter().chain(MEMORY) {
+    let more: &[&[Alteration]] = match base.call.function {
+        Function::Plan => &[KEPT_WORDS],
+        Function::Quick => &[],
+        Function::ReadSheet => &[FURTHER],
+        Function::Charge => &[FURTHER, PRICES],
+    };
+    for alteration in FIELDS.iter().chain(MEMORY).chain(more.iter().copied().flatten()) {
         checks.reported(base, alteration, true);
     }
     if base.call.function == Function::Plan {
-        for alteration in KEPT_WORDS {
-            checks.reported(base, alteration, true);
-        }
         let kept = base.expected.free_words == 0;
         for alteration in NEEDED_WORDS {
             checks.reported(base, alteration, kept);
@@ -131,40 +144,33 @@ fn bases() -> Vec<Base> {
     let foreign_sheet = [b"04", &sheet[..]].concat();
     let free = [0; BUFFER];
     let words = [7; NEED + 9];
+    let plan = |name, case: &Case| base(name, case, Input::plan(&case.text, &words, &free));
+    let quick = |name, case: &Case| base(name, case, Input::quick(&case.text, &free));
+    let read = |name, sheet| base(name, &good, Input::read_sheet(&good.text, sheet));
+    let charge = |name, sheet, prices| base(name, &good, Input::charge(&good.text, sheet, prices));
     vec![
-        base("plan, a sheet", Function::Plan, &good, &words, &free),
-        base("plan, refusal 1", Function::Plan, &unterminated, &words, &free),
-        base("plan, refusal 12", Function::Plan, &budget_exceeded, &words, &free),
-        base("quick, a sheet", Function::Quick, &good, &[], &free),
-        base("quick, refusal 1", Function::Quick, &unterminated, &[], &free),
-        base("read_sheet, a sheet", Function::ReadSheet, &good, &[], &sheet),
-        base(
-            "read_sheet, refusal 13",
-            Function::ReadSheet,
-            &good,
-            &[],
-            &foreign_sheet,
-        ),
+        plan("plan, a sheet", &good),
+        plan("plan, refusal 1", &unterminated),
+        plan("plan, refusal 12", &budget_exceeded),
+        quick("quick, a sheet", &good),
+        quick("quick, refusal 1", &unterminated),
+        read("read_sheet, a sheet", &sheet),
+        read("read_sheet, refusal 13", &foreign_sheet),
+        charge("charge, a charge", &sheet, &[25]),
+        charge("charge, refusal 13", &foreign_sheet, &[25]),
+        charge("charge, refusal 14", &sheet, &[25, 30]),
     ]
 }
 
-fn base(name: &'static str, function: Function, case: &Case, words: &[u64], sheet: &[u8]) -> Base {
-    let expected = match function {
-        Function::Plan => case.plan(words.len(), sheet.len()),
-        Function::Quick => case.quick(sheet.len()),
-        Function::ReadSheet => case.read_sheet(sheet),
-    };
+fn base(name: &'static str, case: &Case, input: Input) -> Base {
     // Seeds are tried until every piece of memory has guards, which the alterations reach for.
     let call = (0..)
-        .map(|seed| guarded(seed, function, &case.text, words, sheet))
-        .find(|call| call.book.has_guards() && call.work.has_guards() && call.sheet.has_guards())
+        .map(|seed| Call::new(&mut Random::new(seed), input))
+        .find(Call::has_guards)
         .expect("most seeds give guards");
-    Base { name, call, expected }
-}
-
-fn guarded(seed: u64, function: Function, book: &[u8], words: &[u64], sheet: &[u8]) -> Call {
-    let mut random = Random::new(seed);
-    let book = lend_bytes(&mut random, book);
-    let work = lend_words(&mut random, words);
-    Call::new(function, book, work, lend_bytes(&mut random, sheet))
+    Base {
+        name,
+        call,
+        expected: case.outcome(input),
+    }
 }

@@ -1,18 +1,22 @@
 //! A run of the differential tests: makes calls, compares each with the reference and counts.
 
-use crate::call::{lend_bytes, lend_words, Call, Function};
+use crate::call::{Call, Function, Input};
 use crate::random::Random;
-use crate::reference::{Case, Outcome};
+use crate::reference::Case;
 
 /// How many differences are kept for printing.
 const MOST_DIFFERENCES: usize = 20;
 
 /// The functions with their names, in the order of `enum Function`.
-const FUNCTIONS: [(Function, &str); 3] = [
+const FUNCTIONS: [(Function, &str); 4] = [
     (Function::Plan, "plan"),
     (Function::Quick, "quick"),
     (Function::ReadSheet, "read_sheet"),
+    (Function::Charge, "charge"),
 ];
+
+/// Success, and the numbers of the refusals.
+const NUMBERS: usize = 15;
 
 pub struct Session {
     pub random: Random,
@@ -21,7 +25,7 @@ pub struct Session {
     pub passed: u64,
     pub failed: u64,
     /// Inputs by function and by the number that was expected.
-    refusals: [[u64; 14]; 3],
+    refusals: [[u64; NUMBERS]; FUNCTIONS.len()],
     pub differences: Vec<String>,
 }
 
@@ -32,7 +36,7 @@ impl Session {
             alter,
             passed: 0,
             failed: 0,
-            refusals: [[0; 14]; 3],
+            refusals: [[0; NUMBERS]; FUNCTIONS.len()],
             differences: Vec::new(),
         }
     }
@@ -50,31 +54,31 @@ impl Session {
 
     /// The planner, with these words in the work area.
     pub fn plan_over(&mut self, case: &Case, words: &[u64], buffer: usize) -> Call {
-        let expected = case.plan(words.len(), buffer);
         let sheet = self.bytes(buffer);
-        self.call(Function::Plan, case, words, &sheet, &expected)
+        self.call(case, Input::plan(&case.text, words, &sheet))
     }
 
     pub fn quick(&mut self, case: &Case, buffer: usize) {
-        let expected = case.quick(buffer);
         let sheet = self.bytes(buffer);
-        self.call(Function::Quick, case, &[], &sheet, &expected);
+        self.call(case, Input::quick(&case.text, &sheet));
     }
 
     pub fn read_sheet(&mut self, case: &Case, sheet: &[u8]) {
-        let expected = case.read_sheet(sheet);
-        self.call(Function::ReadSheet, case, &[], sheet, &expected);
+        self.call(case, Input::read_sheet(&case.text, sheet));
     }
 
-    fn call(&mut self, function: Function, case: &Case, words: &[u64], sheet: &[u8], expected: &Outcome) -> Call {
-        let book = lend_bytes(&mut self.random, &case.text);
-        let work = lend_words(&mut self.random, words);
-        let sheet = lend_bytes(&mut self.random, sheet);
-        let mut call = Call::new(function, book, work, sheet);
+    pub fn charge(&mut self, case: &Case, sheet: &[u8], prices: &[u16]) {
+        self.call(case, Input::charge(&case.text, sheet, prices));
+    }
+
+    /// A call on the case's book.
+    fn call(&mut self, case: &Case, input: Input) -> Call {
+        let expected = case.outcome(input);
+        let mut call = Call::new(&mut self.random, input);
         (self.alter)(&mut call);
-        let mut complaints = call.complaints(expected);
+        let mut complaints = call.complaints(&expected);
         complaints.extend(case.doubt().map(str::to_string));
-        self.refusals[function as usize][expected.answer.number as usize] += 1;
+        self.refusals[input.function as usize][expected.answer.first.number as usize] += 1;
         self.count(&call, &complaints);
         call
     }
@@ -109,7 +113,7 @@ impl Session {
     /// Inputs by function and number, as lines of text.
     pub fn refusal_table(&self) -> String {
         let mut table = format!("{:<12}", "number");
-        (0..14).for_each(|number| table += &format!("{number:>7}"));
+        (0..NUMBERS).for_each(|number| table += &format!("{number:>7}"));
         for (function, name) in FUNCTIONS {
             table += &format!("\n{name:<12}");
             for count in self.refusals[function as usize] {
