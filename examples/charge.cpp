@@ -36,7 +36,7 @@ void print_slot(std::size_t number, std::uint64_t active, std::uint64_t price)
 
 int charge(const std::string &book, const std::string &sheet, const std::vector<std::uint16_t> &prices)
 {
-    // Without a price a vector has no memory, and no pointer that is not null.
+    // The data of an empty vector may be a null pointer.
     const std::uint16_t none = 0;
     const jadeshuttle_charge_answer answer =
         jadeshuttle_charge(bytes(book), book.size(), bytes(sheet), sheet.size(),
@@ -74,14 +74,6 @@ int main(int argc, char **argv)
         std::fputs("usage: charge BOOK SHEET [PRICE..]\n", stderr);
         return 2;
     }
-    const auto book = contents(argv[1]);
-    if (!book)
-        return own_error("charge", argv[1], "cannot be read");
-    const auto sheet = contents(argv[2]);
-    if (!sheet)
-        return own_error("charge", argv[2], "cannot be read");
-    const int status = charge(*book, *sheet, *prices);
-    if (std::fflush(stdout) != 0)
-        return own_error("charge", "standard output", "cannot be written");
-    return status;
+    return with_book_and_sheet("charge", argv[1], argv[2],
+                               [&](const std::string &book, const std::string &sheet) { return charge(book, sheet, *prices); });
 }

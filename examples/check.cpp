@@ -2,12 +2,12 @@
 //
 //     check BOOK SHEET [PERCENT]
 //
-// The relay is set at PERCENT of each slot's limit; 100 where it is not given. Apparent power and share are rounded up.
+// The relay is set at PERCENT of each slot's limit, from 1 to 1000; 100 where it is not given. Apparent power and share are
+// rounded up.
 // Exit status: 0 the relay holds in every slot, 1 a refusal, 2 an error of this program, 3 the relay trips in some slot.
 #include <cstddef>
 #include <cstdint>
 #include <cstdio>
-#include <optional>
 #include <string>
 
 #include "jadeshuttle.h"
@@ -108,14 +108,6 @@ int main(int argc, char **argv)
         std::fputs("usage: check BOOK SHEET [PERCENT]\n", stderr);
         return 2;
     }
-    const auto book = contents(argv[1]);
-    if (!book)
-        return own_error("check", argv[1], "cannot be read");
-    const auto sheet = contents(argv[2]);
-    if (!sheet)
-        return own_error("check", argv[2], "cannot be read");
-    const int status = check(*book, *sheet, *percent);
-    if (std::fflush(stdout) != 0)
-        return own_error("check", "standard output", "cannot be written");
-    return status;
+    return with_book_and_sheet("check", argv[1], argv[2],
+                               [&](const std::string &book, const std::string &sheet) { return check(book, sheet, *percent); });
 }

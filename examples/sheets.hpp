@@ -1,4 +1,4 @@
-// What the examples in C++ share: files, and the fields of a book and a sheet that were accepted.
+// What the examples in C++ share: their files, arguments and errors, and the fields of a book and a sheet that were accepted.
 #ifndef EXAMPLES_SHEETS_HPP
 #define EXAMPLES_SHEETS_HPP
 
@@ -59,7 +59,7 @@ inline std::string tenths(std::int64_t x)
     return (x < 0 ? "-" : "") + std::to_string(size / 10) + "." + std::to_string(size % 10);
 }
 
-// A whole number from 0 to `most`, in decimal digits.
+// A whole number from 0 to `most`, in at most nine decimal digits, so that it fits.
 inline std::optional<std::uint64_t> number_in(const std::string &text, std::uint64_t most)
 {
     if (text.empty() || text.size() > 9 || text.find_first_not_of("0123456789") != std::string::npos)
@@ -75,6 +75,22 @@ inline int own_error(const char *program, const char *name, const char *what)
 {
     std::fprintf(stderr, "%s: %s: %s\n", program, name, what);
     return 2;
+}
+
+// Reads the two files and hands them to `use`, whose exit status it is.
+template <typename Use>
+int with_book_and_sheet(const char *program, const char *book_name, const char *sheet_name, Use use)
+{
+    const auto book = contents(book_name);
+    if (!book)
+        return own_error(program, book_name, "cannot be read");
+    const auto sheet = contents(sheet_name);
+    if (!sheet)
+        return own_error(program, sheet_name, "cannot be read");
+    const int status = use(*book, *sheet);
+    if (std::fflush(stdout) != 0)
+        return own_error(program, "standard output", "cannot be written");
+    return status;
 }
 
 #endif

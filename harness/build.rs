@@ -1,8 +1,6 @@
 //! Links `libjadeshuttle.a` from the folder in JADESHUTTLE_ARCHIVE_DIR, or from where `rt staticlib` leaves it, and writes
 //! the declarations of its calls from the Rattle source.
 
-// The refusals are for the header's test alone.
-#[allow(dead_code)]
 #[path = "src/abi.rs"]
 mod abi;
 
@@ -35,7 +33,7 @@ fn link(manifest: &Path) {
     println!("cargo:rustc-env=JADESHUTTLE_ARCHIVE={}", archive.display());
 }
 
-/// The sizes, the structs, the calls, and a safe function for each call.
+/// The sizes, how many numbers an answer can have, the structs, the calls, and a safe function for each call.
 fn declarations(project: &Path) -> Parsed<String> {
     let (source, model) = (Source::calls(project)?, Source::model(project)?);
     for source in [&source, &model] {
@@ -47,6 +45,10 @@ fn declarations(project: &Path) -> Parsed<String> {
         text += &format!("pub const {name}: usize = {value};\n");
     }
     let plain = abi::fields(&model, "Answer")?;
+    text += &format!(
+        "/// Of success and of the refusals.\npub const NUMBERS: usize = {};\n",
+        1 + abi::refusals(&model)?.len()
+    );
     for known in abi::structs(&calls) {
         text += &structure(&known, &abi::fields(&model, known.rattle)?, &plain);
     }

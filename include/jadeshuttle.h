@@ -9,7 +9,7 @@
  *   jadeshuttle_charge      the charge: what a sheet's energy costs
  *
  * docs/HANDBOOK.md describes the book and the sheet field by field, what the
- * limits mean for a relay, and how large a work area a book needs.
+ * limits mean for a relay, how large a work area a book needs, and what a price is.
  *
  * LINKING  Name target/staticlib/libjadeshuttle.a after your own files. It calls
  * memcpy and memset of the C library, and nothing else.
@@ -25,10 +25,12 @@
  *   - What is written may overlap nothing else: `work` and `sheet` lie apart from
  *     each other and from `book`. The sheet reader and the charge write nothing,
  *     so their arguments may overlap.
- *   - `work` and `sheet` need no first values. No answer depends on them.
+ *   - `work` and the planners' `sheet` need no first values. No answer depends on
+ *     them.
  *
  * The calls cannot test these points. Where one is broken, nothing is promised.
- * Of the bytes in the book, nothing is asked: every input has an answer.
+ * Of the values in book, sheet and prices, nothing is asked: every input has an
+ * answer.
  *
  * WHAT A CALL LEAVES BEHIND
  *   - With a sheet (number 0): the first `bytes` bytes of the sheet buffer are the
@@ -42,7 +44,8 @@
  *     lent.
  *
  * THREADS  There is no state. Calls may run at the same time in several threads,
- * as long as each has its own `work` and `sheet`. They may share a book.
+ * as long as each has its own memory to write, `work` and the planners' `sheet`.
+ * What is only read may be shared.
  *
  * STACK, HEAP  Nothing is allocated. Stack used by a call, as measured on x86-64
  * Linux: planner up to 79 KiB, quick planner up to 55 KiB, sheet reader and charge

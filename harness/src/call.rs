@@ -77,7 +77,7 @@ pub enum Function {
     Charge,
 }
 
-/// A function and what it is given; nothing of what it does not take. `sheet` is a sheet that is read, or a buffer.
+/// A function and what it is given; what it does not take is empty. `sheet` is a sheet that is read, or a buffer.
 #[derive(Clone, Copy)]
 pub struct Input<'a> {
     pub function: Function,

@@ -187,7 +187,7 @@ fn refused<const FURTHER: usize>(refusal: Refusal) -> Outcome {
     answered(first, vec![0; FURTHER])
 }
 
-/// Of a call that writes nothing.
+/// An answer with nothing written.
 fn answered(first: Answer, further: Vec<u64>) -> Outcome {
     Outcome {
         answer: Numbers { first, further },

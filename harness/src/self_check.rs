@@ -23,20 +23,18 @@ struct Base {
 /// An alteration of a call.
 type Alteration = (&'static str, fn(&mut Call));
 
-/// The fields of the answer that every call has.
+/// The answer of any call.
 const FIELDS: &[Alteration] = &[
     ("number", |call| call.answer.first.number ^= 1),
     ("line", |call| call.answer.first.line ^= 1),
     ("bytes", |call| call.answer.first.bytes ^= 1),
     ("worth", |call| call.answer.first.worth ^= 1),
     ("trials", |call| call.answer.first.trials ^= 1),
+    ("number of numbers", |call| call.answer.further.push(0)),
 ];
 
 /// For calls whose answer has more: the sheet reader's code, the charge.
-const FURTHER: &[Alteration] = &[
-    ("further number", |call| call.answer.further[0] ^= 1),
-    ("no further number", |call| call.answer.further.clear()),
-];
+const FURTHER: &[Alteration] = &[("further number", |call| call.answer.further[0] ^= 1)];
 
 /// The memory that was lent and around it.
 const MEMORY: &[Alteration] = &[

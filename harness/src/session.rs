@@ -3,6 +3,7 @@
 use crate::call::{Call, Function, Input};
 use crate::random::Random;
 use crate::reference::Case;
+use crate::NUMBERS;
 
 /// How many differences are kept for printing.
 const MOST_DIFFERENCES: usize = 20;
@@ -14,9 +15,6 @@ const FUNCTIONS: [(Function, &str); 4] = [
     (Function::ReadSheet, "read_sheet"),
     (Function::Charge, "charge"),
 ];
-
-/// Success, and the numbers of the refusals.
-const NUMBERS: usize = 15;
 
 pub struct Session {
     pub random: Random,

@@ -1,4 +1,4 @@
-// The three calls on damaged books.
+// The planners and the sheet reader on damaged books.
 use comparison::Lent;
 use comparison::ROOM;
 use comparison::Wanted;
@@ -15,7 +15,7 @@ use plain::plus;
 use plain::rest;
 use plain::roll;
 
-// The three calls on a book that each of them refuses alike.
+// The planners and the sheet reader on a book that each of them refuses alike.
 fn compare_refused(
     tally: &mut [u64],
     book: &[u8],

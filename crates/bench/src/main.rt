@@ -7,7 +7,7 @@ mod readings;
 // How many books are drawn.
 const TURNS: u64 = 3000;
 
-// The three calls on a book as it was drawn, and damaged. Gives the seed after.
+// The planners and the sheet reader on a book as it was drawn, and damaged. Gives the seed after.
 fn compare_book(seed: u64, tally: &mut [u64], book: &[u64], work: &mut [u64]) -> u64 {
     plans::compare_plans(tally, book, work);
     plans::compare_quicks(tally, book);

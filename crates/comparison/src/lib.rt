@@ -1,4 +1,4 @@
-// Asks the three public calls, and compares each answer, the sheet buffer and the work area with what is wanted.
+// Asks the planners and the sheet reader, and compares each answer, the sheet buffer and the work area with what is wanted.
 use model::Answer;
 use model::SheetAnswer;
 use plain::at;

@@ -34,7 +34,7 @@ module _ (bytes : List ℕ) (v : Reading) (is : v ≡ readingOf (readBook bytes)
   -- a refusal of the book: what is so of every refusal and its answer is so of this one, whatever would be made of the book
   pub refusal-passed-on : {A : Type 0} (P : Result A → Answer → Type 0) → ((r : Refusal) (line : ℕ) → P (refused r line) (refusalAnswer r line))
       → (f : Problem → Result A) → (v .answer .number ≡ 0 → ⊥) → P (andThen (readBook bytes) f) (v .answer)
-  refusal-passed-on {A} P each f =
+  refusal-passed-on P each f =
       subst (λ (x : Reading). (x .answer .number ≡ 0 → ⊥) → P (andThen (readBook bytes) f) (x .answer)) (sym is) (go (readBook bytes))
     where
       go : (x : Result Problem) → (readingOf x .answer .number ≡ 0 → ⊥) → P (andThen x f) (readingOf x .answer)

@@ -1,5 +1,5 @@
 -- Document 01's bounds and the sizes that follow from them, each number once. The code has them as constants of the types that they bound, and the
--- program's two in crate program. The largest charge follows from them too.
+-- program's two in crate program. The largest charges follow from them too.
 use Prim.Native.Nat.{ℕ, _*_, _+_, _/_}
 
 -- "T is the number of slots (quarter hours), 1 to 4. N is the number of loads, 1 to 24. d, the fineness, is 1 to 64. o, the options (levels) of a
@@ -44,6 +44,9 @@ programBytes = 4096
 abbrev pub programWords : ℕ
 programWords = 6144
 
--- the largest charge of document 02's M-100: all loads run with P = 65,535 in every slot, at the price 65,535
+-- the largest charge of a slot (document 02, M-100), all loads at P = 65,535 and the price 65,535; and of a sheet
+abbrev pub mostSlotCharge : ℕ
+mostSlotCharge = mostLoads * 65535 * 65535 / 40
+
 abbrev pub mostCharge : ℕ
-mostCharge = mostSlots * (mostLoads * 65535 * 65535 / 40)
+mostCharge = mostSlots * mostSlotCharge
