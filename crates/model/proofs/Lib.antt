@@ -27,5 +27,9 @@ pub mod RaisedLaws
 pub mod HeldLaws
 pub mod RoundingLaws
 pub mod ChargeLaws
+pub mod KeepLaws
+pub mod MaskLaws
+pub mod StartLaws
 pub mod ReadingLaws
+pub mod OrderKeptLaws
 pub mod AcceptanceTable

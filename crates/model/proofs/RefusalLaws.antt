@@ -6,7 +6,7 @@ use mathlib.Core.List.{List, [], _∷_}
 use Prim.Native.Nat.{ℕ}
 use native.Mathlib.Omega.{arith}
 use Rattle.model.specs.declared.Refusal.{Refusal}
-use Rattle.model.specs.declared.Refusal.the-variants.{Unterminated, NotHex, WrongKind, SlotsOrOptionsOutOfRange, WrongLength, LoadsOrFinenessOutOfRange, ReactiveExceedsActive, TrailingBytes, TooManyCells, WorkTooSmall, BufferTooSmall, BudgetExceeded, ForeignSheet, WrongPriceCount}
+use Rattle.model.specs.declared.Refusal.the-variants.{Unterminated, NotHex, WrongKind, SlotsOrOptionsOutOfRange, WrongLength, LoadsOrFinenessOutOfRange, ReactiveExceedsActive, TrailingBytes, TooManyCells, WorkTooSmall, BufferTooSmall, BudgetExceeded, ForeignSheet, WrongPriceCount, WrongNames, NamedLoadStands}
 use Rattle.model.specs.declared.Finding.{Finding}
 use Rattle.model.specs.declared.Finding.the-variants.{Passed, Refused}
 use Rattle.model.specs.Lists.{Every}
@@ -94,3 +94,5 @@ number-some BufferTooSmall e = omega arith
 number-some BudgetExceeded e = omega arith
 number-some ForeignSheet e = omega arith
 number-some WrongPriceCount e = omega arith
+number-some WrongNames e = omega arith
+number-some NamedLoadStands e = omega arith

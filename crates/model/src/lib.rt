@@ -22,6 +22,8 @@ pub enum Refusal {
     BudgetExceeded,
     ForeignSheet,
     WrongPriceCount,
+    WrongNames,
+    NamedLoadStands,
 }
 
 // What the table of refusals says: none applies, or the first that does.
@@ -52,6 +54,14 @@ pub struct SheetAnswer {
 pub struct ChargeAnswer {
     pub answer: Answer,
     pub charge: u64,
+}
+
+// What the order of starting answers: how many loads start, and how many stop, after the rest.
+#[repr(C)]
+pub struct OrderAnswer {
+    pub answer: Answer,
+    pub starts: u64,
+    pub stops: u64,
 }
 
 // A load: standing is its setting 0, its options are the settings after that. Setting c has worths[c] and, in slot s,
@@ -145,6 +155,8 @@ impl Refusal {
             Refusal::BudgetExceeded => 12,
             Refusal::ForeignSheet => 13,
             Refusal::WrongPriceCount => 14,
+            Refusal::WrongNames => 15,
+            Refusal::NamedLoadStands => 16,
         }
     }
 }

@@ -1,0 +1,196 @@
+-- The numbers from i to i + n - 1 that pass a test, `keep p (uptoFrom i n)`: the lowest of them, how many they are, and how often a number is among them.
+-- Assumes nothing.
+use mathlib.Core.Path.{_≡_, refl, sym, ap, ap₂, _∙_, subst}
+use mathlib.Core.Bool.{Bool, true, false, cond, _&&_, _||_, false≢true}
+use mathlib.Core.Logic.{_⊎_, inl, inr}
+use mathlib.Core.List.{List, [], _∷_, _++_}
+use Prim.Native.Nat.{ℕ, zero, suc, _+_, _<_, _≤_}
+use native.Mathlib.Omega.{arith}
+use lib.Dec.{eqb}
+use lib.ListN.{length, take, length-append}
+use borrow.Author.Tests.{eqb-true, eq-eqb, ne-eqb}
+use Rattle.model.specs.Lists.{uptoFrom, Mem, Every, keepIf, keep, any, isEmpty}
+use Rattle.model.specs.Order.{times}
+use Rattle.model.proofs.ListLaws.{keep-append, keep-same}
+use Rattle.model.proofs.IntegerLaws.{split}
+
+-- ---- two tests, one after the other
+
+module _ {A : Type 0} where
+  pub keep-keep : (p q : A → Bool) (xs : List A) → keep p (keep q xs) ≡ keep (λ x. q x && p x) xs
+  keep-keep p q [] = refl
+  keep-keep p q (x ∷ xs) = go (q x) (keep-keep p q xs)
+    where
+      go : (t : Bool) → keep p (keep q xs) ≡ keep (λ y. q y && p y) xs → keep p (keepIf t x (keep q xs)) ≡ keepIf (t && p x) x (keep (λ y. q y && p y) xs)
+      go true e = ap (keepIf (p x) x) e
+      go false e = e
+
+  pub keep-all : (p : A → Bool) (xs : List A) → ((x : A) → p x ≡ true) → keep p xs ≡ xs
+  keep-all p [] h = refl
+  keep-all p (x ∷ xs) h = ap₂ (λ t r. keepIf t x r) (h x) (keep-all p xs h)
+
+  pub any-join : (p : A → Bool) (xs ys : List A) → any p (xs ++ ys) ≡ (any p xs || any p ys)
+  any-join p [] ys = refl
+  any-join p (x ∷ xs) ys = go (p x) (any-join p xs ys)
+    where
+      go : (t : Bool) → any p (xs ++ ys) ≡ (any p xs || any p ys) → (t || any p (xs ++ ys)) ≡ ((t || any p xs) || any p ys)
+      go true e = refl
+      go false e = e
+
+-- ---- members
+
+pub any-mem : (k : ℕ) (xs : List ℕ) → any (eqb k) xs ≡ true → Mem k xs
+any-mem k [] e = absurd (false≢true e)
+any-mem k (x ∷ xs) e = go (eqb k x) refl e (any-mem k xs)
+  where
+    go : (t : Bool) → eqb k x ≡ t → (t || any (eqb k) xs) ≡ true → (any (eqb k) xs ≡ true → Mem k xs) → Mem k (x ∷ xs)
+    go true q f rest = inl (eqb-true k x q)
+    go false q f rest = inr (rest f)
+
+pub mem-any : (k : ℕ) (xs : List ℕ) → Mem k xs → any (eqb k) xs ≡ true
+mem-any k [] m = absurd m
+mem-any k (x ∷ xs) (inl e) = ap (λ t. t || any (eqb k) xs) (eq-eqb k x e)
+mem-any k (x ∷ xs) (inr m) = go (eqb k x) (mem-any k xs m)
+  where
+    go : (t : Bool) → any (eqb k) xs ≡ true → (t || any (eqb k) xs) ≡ true
+    go true e = refl
+    go false e = e
+
+-- ---- the lowest number that passes
+
+pub every-from : (P : ℕ → Type 0) (i n : ℕ) → Every P (uptoFrom i n) → (k : ℕ) → i ≤ k → k < i + n → P k
+every-from P i zero h k a b = absurd (omega arith)
+every-from P i (suc n) h k a b = go (split i k) (λ l. every-from P (suc i) n (h .1) k l (omega arith))
+  where
+    go : (i < k) ⊎ (k ≤ i) → (i < k → P k) → P k
+    go (inl l) rest = rest l
+    go (inr l) rest = let here : i ≡ k = omega arith in subst P here (h .0)
+
+every-above : (P : ℕ → Type 0) (i n : ℕ) → ((k : ℕ) → i ≤ k → P k) → Every P (uptoFrom i n)
+every-above P i zero h = tt
+every-above P i (suc n) h = (h i (omega arith), every-above P (suc i) n (λ k a. h k (omega arith)))
+
+module _ (p : ℕ → Bool) where
+  pub keep-none : (i n : ℕ) → ((k : ℕ) → i ≤ k → k < i + n → p k ≡ false) → keep p (uptoFrom i n) ≡ []
+  keep-none i zero h = refl
+  keep-none i (suc n) h =
+      ap (λ t. keepIf t i (keep p (uptoFrom (suc i) n))) (h i (omega arith) (omega arith))
+      ∙ keep-none (suc i) n (λ k a b. h k (omega arith) (omega arith))
+
+  pub keep-lowest : (i n k : ℕ) → i ≤ k → k < i + n → p k ≡ true → ((j : ℕ) → i ≤ j → j < k → p j ≡ false)
+      → take 1 (keep p (uptoFrom i n)) ≡ k ∷ []
+  keep-lowest i zero k a b e h = absurd (omega arith)
+  keep-lowest i (suc n) k a b e h = go (split i k) (λ l. keep-lowest (suc i) n k l (omega arith) e (λ j c d. h j (omega arith) d))
+    where
+      go : (i < k) ⊎ (k ≤ i) → (i < k → take 1 (keep p (uptoFrom (suc i) n)) ≡ k ∷ []) → take 1 (keep p (uptoFrom i (suc n))) ≡ k ∷ []
+      go (inl l) rest = ap (λ t. take 1 (keepIf t i (keep p (uptoFrom (suc i) n)))) (h i (omega arith) l) ∙ rest l
+      go (inr l) rest =
+          let here : i ≡ k = omega arith in
+          ap (λ t. take 1 (keepIf t i (keep p (uptoFrom (suc i) n)))) (ap p here ∙ e) ∙ ap {B = List ℕ} (λ j. j ∷ []) here
+
+  -- where some number passes, there is a lowest
+  pub record Lowest (i n : ℕ) : Type 0 where
+    pub number : ℕ
+    pub low : i ≤ number
+    pub high : number < i + n
+    pub passes : p number ≡ true
+    pub lower : (j : ℕ) → i ≤ j → j < number → p j ≡ false
+
+  pub lowest-of : (i n : ℕ) → isEmpty (keep p (uptoFrom i n)) ≡ false → Lowest i n
+  lowest-of i zero e = absurd (false≢true (sym e))
+  lowest-of i (suc n) e = go (p i) refl e (lowest-of (suc i) n)
+    where
+      go : (t : Bool) → p i ≡ t → isEmpty (keepIf t i (keep p (uptoFrom (suc i) n))) ≡ false
+          → (isEmpty (keep p (uptoFrom (suc i) n)) ≡ false → Lowest (suc i) n) → Lowest i (suc n)
+      go true q f rest =
+          record { number = i; low = omega arith; high = omega arith; passes = q; lower = λ j a b. absurd (omega arith) }
+      go false q f rest =
+          let r = rest f in
+          record {
+            number = r .number;
+            low = omega (arith, r .low);
+            high = omega (arith, r .high);
+            passes = r .passes;
+            lower = λ j a b. below (r .number) (r .lower) j a b (split i j);
+          }
+        where
+          below : (m : ℕ) → ((j : ℕ) → suc i ≤ j → j < m → p j ≡ false) → (j : ℕ) → i ≤ j → j < m → (i < j) ⊎ (j ≤ i) → p j ≡ false
+          below m h j a b (inl l) = h j l b
+          below m h j a b (inr l) = let here : j ≡ i = omega arith in ap p here ∙ q
+
+  pub keep-some : (i n k : ℕ) → i ≤ k → k < i + n → p k ≡ true → isEmpty (keep p (uptoFrom i n)) ≡ false
+  keep-some i zero k a b e = absurd (omega arith)
+  keep-some i (suc n) k a b e = go (p i) refl (split i k) (λ l. keep-some (suc i) n k l (omega arith) e)
+    where
+      go : (t : Bool) → p i ≡ t → (i < k) ⊎ (k ≤ i) → (i < k → isEmpty (keep p (uptoFrom (suc i) n)) ≡ false)
+          → isEmpty (keepIf t i (keep p (uptoFrom (suc i) n))) ≡ false
+      go true q l rest = refl
+      go false q (inl l) rest = rest l
+      go false q (inr l) rest = let here : i ≡ k = omega arith in absurd (false≢true (sym q ∙ ap p here ∙ e))
+
+-- one number less passes
+pub keep-less : (p q : ℕ → Bool) (i n k : ℕ) → i ≤ k → k < i + n → p k ≡ true → q k ≡ false → ((j : ℕ) → (j ≡ k → ⊥) → q j ≡ p j)
+    → length (keep p (uptoFrom i n)) ≡ length (keep q (uptoFrom i n)) + 1
+keep-less p q i zero k a b e f h = absurd (omega arith)
+keep-less p q i (suc n) k a b e f h = go (split i k) (λ l. keep-less p q (suc i) n k l (omega arith) e f h)
+  where
+    one : (t : Bool) (xs ys : List ℕ) → length xs ≡ length ys + 1 → length (keepIf t i xs) ≡ length (keepIf t i ys) + 1
+    one true xs ys r = omega arith
+    one false xs ys r = r
+
+    go : (i < k) ⊎ (k ≤ i) → (i < k → length (keep p (uptoFrom (suc i) n)) ≡ length (keep q (uptoFrom (suc i) n)) + 1)
+        → length (keep p (uptoFrom i (suc n))) ≡ length (keep q (uptoFrom i (suc n))) + 1
+    go (inl l) rest =
+        one (p i) (keep p (uptoFrom (suc i) n)) (keep q (uptoFrom (suc i) n)) (rest l)
+        ∙ ap (λ t. length (keepIf t i (keep q (uptoFrom (suc i) n))) + 1) (sym (h i (λ c. omega arith)))
+    go (inr l) rest =
+        let here : i ≡ k = omega arith in
+        ap (λ t. length (keepIf t i (keep p (uptoFrom (suc i) n)))) (ap p here ∙ e)
+        ∙ ap suc (ap length (keep-same p q (uptoFrom (suc i) n) (every-above (λ j. p j ≡ q j) (suc i) n (λ j c. sym (h j (λ d. omega arith))))))
+        ∙ (omega arith)
+        ∙ ap (λ t. length (keepIf t i (keep q (uptoFrom (suc i) n))) + 1) (sym (ap q here ∙ f))
+
+-- ---- how often a number stands in a list
+
+pub times-join : (k : ℕ) (xs ys : List ℕ) → times k (xs ++ ys) ≡ times k xs + times k ys
+times-join k xs ys = ap length (keep-append (eqb k) xs ys) ∙ length-append (keep (eqb k) xs) (keep (eqb k) ys)
+
+-- a list of which only what passes is kept
+pub times-keep : (k : ℕ) (p : ℕ → Bool) (xs : List ℕ) → times k (keep p xs) ≡ cond (p k) (times k xs) 0
+times-keep k p [] = same (p k)
+  where
+    same : (t : Bool) → Path ℕ 0 (cond t 0 0)
+    same true = refl
+    same false = refl
+times-keep k p (x ∷ xs) = go (eqb k x) refl (times-keep k p xs)
+  where
+    here : (t : Bool) → times k (keep p xs) ≡ cond t (times k xs) 0 → eqb k x ≡ true → times k (keepIf t x (keep p xs)) ≡ cond t (suc (times k xs)) 0
+    here true r q = ap (λ u. length (keepIf u x (keep (eqb k) (keep p xs)))) q ∙ ap suc r
+    here false r q = r
+
+    other : (t : Bool) → times k (keep p xs) ≡ cond (p k) (times k xs) 0 → eqb k x ≡ false
+        → times k (keepIf t x (keep p xs)) ≡ cond (p k) (times k xs) 0
+    other true r q = ap (λ u. length (keepIf u x (keep (eqb k) (keep p xs)))) q ∙ r
+    other false r q = r
+
+    go : (t : Bool) → eqb k x ≡ t → times k (keep p xs) ≡ cond (p k) (times k xs) 0
+        → times k (keepIf (p x) x (keep p xs)) ≡ cond (p k) (length (keepIf t x (keep (eqb k) xs))) 0
+    go true q r = ap (λ y. times k (keepIf (p y) x (keep p xs))) (sym (eqb-true k x q)) ∙ here (p k) r q
+    go false q r = other (p x) r q
+
+-- of i, .., i + n - 1
+times-below : (k i n : ℕ) → k < i → times k (uptoFrom i n) ≡ 0
+times-below k i n h = ap length (keep-none (eqb k) i n (λ j a b. ne-eqb k j (λ e. omega arith)))
+
+pub times-upto : (k i n : ℕ) → i ≤ k → k < i + n → times k (uptoFrom i n) ≡ 1
+times-upto k i n a b =
+    keep-less (eqb k) (λ j. false) i n k a b (eq-eqb k k refl) refl (λ j h. sym (ne-eqb k j (λ e. h (sym e))))
+    ∙ ap (λ (xs : List ℕ). length xs + 1) (keep-none (λ j. false) i n (λ j c d. refl))
+
+pub times-once : (k i n : ℕ) → times k (uptoFrom i n) ≤ 1
+times-once k i zero = omega arith
+times-once k i (suc n) = go (eqb k i) refl (times-once k (suc i) n)
+  where
+    go : (t : Bool) → eqb k i ≡ t → times k (uptoFrom (suc i) n) ≤ 1 → length (keepIf t i (keep (eqb k) (uptoFrom (suc i) n))) ≤ 1
+    go true q rest = omega (arith, times-below k (suc i) n (omega (arith, eqb-true k i q)))
+    go false q rest = rest

@@ -1,0 +1,71 @@
+-- M-101 of the bytes: what is kept wherever a call gives an order.
+-- Assumes nothing.
+use mathlib.Core.Path.{_≡_, refl, sym, ap, ap₂, _∙_, subst}
+use mathlib.Core.List.{List}
+use Prim.Native.Nat.{ℕ, _≤_}
+use native.Mathlib.Omega.{arith}
+use lib.ListN.{length, take, drop}
+use lib.Seq.{take-at}
+use Rattle.model.specs.declared.Answer.{Answer}
+use Rattle.model.specs.declared.OrderAnswer.{OrderAnswer}
+use Rattle.model.specs.Bounds.{mostLoads}
+use Rattle.model.specs.Refusals.{Result, refused, done, first}
+use Rattle.model.specs.Book.{Problem, readBook}
+use Rattle.model.specs.Choice.{Choice, IsChoice}
+use Rattle.model.specs.SheetReader.{sheetChoice}
+use Rattle.model.specs.Order.{starting, startOrder, orderRules, OrderData, orderData, choicesOrder, sheetsOrder, orderResult, WritesOrder, Ordered, OrderKept}
+use Rattle.model.proofs.RefusalLaws.{done-same, checked-done, then-done, first-passed, number-some}
+use Rattle.model.proofs.PlanLaws.{chosen-length}
+use Rattle.model.proofs.ValidLaws.{book-valid}
+use Rattle.model.proofs.SheetLaws.{choice-only}
+use Rattle.model.proofs.MaskLaws.{starts-counted}
+use Rattle.model.proofs.StartLaws.{order-kept}
+
+-- a choice on a sheet has a setting for each load
+sheet-loads : (sheet : List ℕ) (b : Problem) (c : Choice) → sheetChoice sheet b ≡ done c → length c ≡ length (b .loads)
+sheet-loads sheet b c e =
+    let of = choice-only sheet b c e in
+    chosen-length (b .loads) c (subst (IsChoice (b .loads)) (of .1) (of .0 .of-book))
+
+module _ (book running planned names : List ℕ) (room : ℕ) (before after : List ℕ) (r : OrderAnswer) where
+  -- where the result is this order
+  kept-done : (x : OrderData) → orderResult book running planned names room ≡ done x → WritesOrder (done x) before after r
+      → OrderKept book running planned names after r
+  unfolding orderResult sheetsOrder choicesOrder
+  kept-done x e w =
+      let read = then-done (readBook book) (sheetsOrder running planned names room) x e in
+      let b = read .0 in
+      let n = length (b .loads) in
+      let now = then-done (sheetChoice running b) _ x (read .2) in
+      let old = now .0 in
+      let next = then-done (sheetChoice planned b) _ x (now .2) in
+      let new = next .0 in
+      let passed = checked-done 0 (first (orderRules n old new names room)) (done (orderData n old new names)) x (next .2) in
+      let none = first-passed (orderRules n old new names room) (passed .0) in
+      let is : orderData n old new names ≡ x = done-same (orderData n old new names) x (passed .1) in
+      let written : startOrder n old new names ≡ take (r .answer .bytes) after
+      = ap (λ (y : OrderData). y .order) is
+      ∙ sym (take-at (x .order) (drop (length (x .order)) before) (length (x .order)) refl)
+      ∙ ap₂ take (sym (ap (λ (a : Answer). a .bytes) (w .writes .answers))) (sym (w .writes .leaves)) in
+      let few : n ≤ mostLoads = book-valid book b (read .1) .loads-few in
+      let now-loads = sheet-loads running b old (now .1) in
+      let next-loads = sheet-loads planned b new (next .1) in
+      record {
+        b = b;
+        reads = read .1;
+        old = old;
+        runs-now = now .1;
+        new = new;
+        runs-next = next .1;
+        ordered = subst (Ordered n old new names) written (order-kept n old new names (none .0) (none .1 .0));
+        starts = w .starts ∙ sym (ap (λ (y : OrderData). y .starts) is) ∙ starts-counted n old new now-loads next-loads few;
+        stops = w .stops ∙ sym (ap (λ (y : OrderData). y .stops) is) ∙ starts-counted n new old next-loads now-loads few;
+      }
+
+  pub kept : WritesOrder (orderResult book running planned names room) before after r → r .answer .number ≡ 0
+      → OrderKept book running planned names after r
+  kept w zero = go (orderResult book running planned names room) refl w
+    where
+      go : (x : Result OrderData) → orderResult book running planned names room ≡ x → WritesOrder x before after r → OrderKept book running planned names after r
+      go (refused f line) e v = absurd (number-some f (sym (ap (λ (a : Answer). a .number) (v .writes .answers)) ∙ zero))
+      go (done x) e v = kept-done x e v
