@@ -13,21 +13,24 @@ use lib.ListN.{length}
 use lib.Pow.{pow-pos}
 use Rattle.model.specs.Lists.{uptoFrom, keepIf, keep}
 use Rattle.model.specs.Bounds.{mostLoads}
-use Rattle.model.specs.Choice.{Choice}
-use Rattle.model.specs.Order.{starts, starting, runningMask, andNot, startCount, StartsCounted}
+use Rattle.model.specs.Order.{Running, starts, starting, maskFrom, runningMask, andNot, startCount, StartsCounted}
 
 -- a bit for a load
 abbrev bit : Bool → ℕ
-bit t = cond t 0 1
+bit t = cond t 1 0
 
 bit-small : (t : Bool) → bit t < 2
 bit-small true = omega arith
 bit-small false = omega arith
 
-pub mask-small : (c : Choice) (w : ℕ) → length c ≤ w → runningMask c < 2 ^ w
-mask-small [] w h = pow-pos w
-mask-small (v ∷ c) zero h = absurd (omega arith)
-mask-small (v ∷ c) (suc w) h = omega (arith, pow-suc 2 w, bit-small (eqb (v .number) 0), mask-small c w (le-of-suc-le-suc h))
+pub mask-below : (on : Running) (k n w : ℕ) → n ≤ w → maskFrom on k n < 2 ^ w
+mask-below on k zero w h = pow-pos w
+mask-below on k (suc n) zero h = absurd (omega arith)
+mask-below on k (suc n) (suc w) h = omega (arith, pow-suc 2 w, bit-small (on k), mask-below on (suc k) n w (le-of-suc-le-suc h))
+
+pub mask-small : (n : ℕ) (on : Running) → n ≤ mostLoads → runningMask n on < 2 ^ mostLoads
+unfolding runningMask
+mask-small n on h = mask-below on 1 n mostLoads h
 
 -- the ones of a mask whose lowest bit stands apart
 ones-low : (x r : ℕ) → r < 2 → ones (x * 2 + r) ≡ r + ones x
@@ -48,45 +51,24 @@ ones-more w s t x y hs ht hy =
     ∙ ap₂ (λ a b. a * 2 + b) (ap₂ bitAnd high high′) (ap₂ min low low′))
     ∙ ones-low (bitAnd x (2 ^ w - 1 - y)) (min s (1 - t)) (omega arith)
 
--- the loads after the first, counted from 1 again
-later : (p q : ℕ → Bool) (i n : ℕ) → ((k : ℕ) → i ≤ k → p (suc k) ≡ q k) → length (keep p (uptoFrom (suc i) n)) ≡ length (keep q (uptoFrom i n))
-later p q i zero h = refl
-later p q i (suc n) h =
-    ap (λ t. length (keepIf t (suc i) (keep p (uptoFrom (suc (suc i)) n)))) (h i (omega arith))
-    ∙ sized (q i) (later p q (suc i) n (λ k l. h k (omega arith)))
-  where
-    sized : (t : Bool) → length (keep p (uptoFrom (suc (suc i)) n)) ≡ length (keep q (uptoFrom (suc i) n))
-        → length (keepIf t (suc i) (keep p (uptoFrom (suc (suc i)) n))) ≡ length (keepIf t i (keep q (uptoFrom (suc i) n)))
-    sized true e = ap suc e
-    sized false e = e
-
--- the first load, where `a` says that it stands in the old choice and `b` that it stands in the new one
-counted-first : (a b : Bool) (m : ℕ) (xs : List ℕ) → m ≡ length xs → min (bit b) (1 - bit a) + m ≡ length (keepIf (not (not a) && not b) 1 xs)
-counted-first true true m xs e = omega arith
-counted-first true false m xs e = omega arith
-counted-first false true m xs e = omega arith
-counted-first false false m xs e = omega arith
+-- the first load
+counted-first : (a b : Bool) (k m : ℕ) (xs : List ℕ) → m ≡ length xs → min (bit b) (1 - bit a) + m ≡ length (keepIf (not a && b) k xs)
+counted-first true true k m xs e = omega arith
+counted-first true false k m xs e = omega arith
+counted-first false true k m xs e = omega arith
+counted-first false false k m xs e = omega arith
 
 -- over the width of the masks
-counted : (w : ℕ) (old new : Choice) → length old ≡ length new → length new ≤ w
-    → ones (bitAnd (runningMask new) (2 ^ w - 1 - runningMask old)) ≡ length (keep (starts old new) (uptoFrom 1 (length new)))
+counted : (old new : Running) (w k n : ℕ) → n ≤ w
+    → ones (bitAnd (maskFrom new k n) (2 ^ w - 1 - maskFrom old k n)) ≡ length (keep (starts old new) (uptoFrom k n))
 unfolding ones
-counted w [] [] e h = refl
-counted w [] (v ∷ new) e h = absurd (omega arith)
-counted w (u ∷ old) [] e h = absurd (omega arith)
-counted zero (u ∷ old) (v ∷ new) e h = absurd (omega arith)
-counted (suc w) (u ∷ old) (v ∷ new) e h =
-    ones-more w (bit (eqb (v .number) 0)) (bit (eqb (u .number) 0)) (runningMask new) (runningMask old)
-    (bit-small (eqb (v .number) 0)) (bit-small (eqb (u .number) 0)) (mask-small old w (omega arith))
-    ∙ counted-first (eqb (u .number) 0) (eqb (v .number) 0) _ _
-    (counted w old new (omega arith) (le-of-suc-le-suc h)
-    ∙ sym (later (starts (u ∷ old) (v ∷ new)) (starts old new) 1 (length new) shifted))
-  where
-    shifted : (k : ℕ) → 1 ≤ k → starts (u ∷ old) (v ∷ new) (suc k) ≡ starts old new k
-    shifted zero l = absurd (omega arith)
-    shifted (suc k) l = refl
+counted old new w k zero h = refl
+counted old new zero k (suc n) h = absurd (omega arith)
+counted old new (suc w) k (suc n) h =
+    ones-more w (bit (new k)) (bit (old k)) (maskFrom new (suc k) n) (maskFrom old (suc k) n)
+    (bit-small (new k)) (bit-small (old k)) (mask-below old (suc k) n w (le-of-suc-le-suc h))
+    ∙ counted-first (old k) (new k) k _ _ (counted old new w (suc k) n (le-of-suc-le-suc h))
 
 pub starts-counted : StartsCounted
-unfolding startCount andNot starting
-starts-counted n old new e f h =
-    counted mostLoads old new (e ∙ sym f) (omega arith) ∙ ap (λ m. length (keep (starts old new) (uptoFrom 1 m))) f
+unfolding startCount andNot starting runningMask
+starts-counted n old new h = counted old new mostLoads 1 n h

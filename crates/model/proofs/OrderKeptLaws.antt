@@ -10,36 +10,27 @@ use Rattle.model.specs.declared.Answer.{Answer}
 use Rattle.model.specs.declared.OrderAnswer.{OrderAnswer}
 use Rattle.model.specs.Bounds.{mostLoads}
 use Rattle.model.specs.Refusals.{Result, refused, done, first}
-use Rattle.model.specs.Book.{Problem, readBook}
-use Rattle.model.specs.Choice.{Choice, IsChoice}
+use Rattle.model.specs.Book.{readBook}
 use Rattle.model.specs.SheetReader.{sheetChoice}
-use Rattle.model.specs.Order.{starting, startOrder, orderRules, OrderData, orderData, choicesOrder, sheetsOrder, orderResult, WritesOrder, Ordered, OrderKept}
+use Rattle.model.specs.Order.{runningOn, startOrder, orderRules, OrderData, orderData, loadsOrder, sheetsOrder, orderResult, WritesOrder, Ordered, OrderKept}
 use Rattle.model.proofs.RefusalLaws.{done-same, checked-done, then-done, first-passed, number-some}
-use Rattle.model.proofs.PlanLaws.{chosen-length}
 use Rattle.model.proofs.ValidLaws.{book-valid}
-use Rattle.model.proofs.SheetLaws.{choice-only}
 use Rattle.model.proofs.MaskLaws.{starts-counted}
 use Rattle.model.proofs.StartLaws.{order-kept}
 
--- a choice on a sheet has a setting for each load
-sheet-loads : (sheet : List ℕ) (b : Problem) (c : Choice) → sheetChoice sheet b ≡ done c → length c ≡ length (b .loads)
-sheet-loads sheet b c e =
-    let of = choice-only sheet b c e in
-    chosen-length (b .loads) c (subst (IsChoice (b .loads)) (of .1) (of .0 .of-book))
-
-module _ (book running planned names : List ℕ) (room : ℕ) (before after : List ℕ) (r : OrderAnswer) where
+module _ (book running planned names : List ℕ) (room : ℕ) {before after : List ℕ} {r : OrderAnswer} where
   -- where the result is this order
   kept-done : (x : OrderData) → orderResult book running planned names room ≡ done x → WritesOrder (done x) before after r
       → OrderKept book running planned names after r
-  unfolding orderResult sheetsOrder choicesOrder
+  unfolding orderResult sheetsOrder loadsOrder
   kept-done x e w =
       let read = then-done (readBook book) (sheetsOrder running planned names room) x e in
       let b = read .0 in
       let n = length (b .loads) in
       let now = then-done (sheetChoice running b) _ x (read .2) in
-      let old = now .0 in
+      let old = runningOn (now .0) in
       let next = then-done (sheetChoice planned b) _ x (now .2) in
-      let new = next .0 in
+      let new = runningOn (next .0) in
       let passed = checked-done 0 (first (orderRules n old new names room)) (done (orderData n old new names)) x (next .2) in
       let none = first-passed (orderRules n old new names room) (passed .0) in
       let is : orderData n old new names ≡ x = done-same (orderData n old new names) x (passed .1) in
@@ -48,18 +39,16 @@ module _ (book running planned names : List ℕ) (room : ℕ) (before after : Li
       ∙ sym (take-at (x .order) (drop (length (x .order)) before) (length (x .order)) refl)
       ∙ ap₂ take (sym (ap (λ (a : Answer). a .bytes) (w .writes .answers))) (sym (w .writes .leaves)) in
       let few : n ≤ mostLoads = book-valid book b (read .1) .loads-few in
-      let now-loads = sheet-loads running b old (now .1) in
-      let next-loads = sheet-loads planned b new (next .1) in
       record {
         b = b;
         reads = read .1;
-        old = old;
+        old = now .0;
         runs-now = now .1;
-        new = new;
+        new = next .0;
         runs-next = next .1;
-        ordered = subst (Ordered n old new names) written (order-kept n old new names (none .0) (none .1 .0));
-        starts = w .starts ∙ sym (ap (λ (y : OrderData). y .starts) is) ∙ starts-counted n old new now-loads next-loads few;
-        stops = w .stops ∙ sym (ap (λ (y : OrderData). y .stops) is) ∙ starts-counted n new old next-loads now-loads few;
+        ordered = subst (Ordered n old new names) written (order-kept n old new names (none .0) (none .1 .0) refl);
+        starts = w .starts ∙ sym (ap (λ (y : OrderData). y .starts) is) ∙ starts-counted n old new few;
+        stops = w .stops ∙ sym (ap (λ (y : OrderData). y .stops) is) ∙ starts-counted n new old few;
       }
 
   pub kept : WritesOrder (orderResult book running planned names room) before after r → r .answer .number ≡ 0

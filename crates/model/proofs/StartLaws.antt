@@ -12,19 +12,18 @@ use lib.ListN.{length, getD, take, drop, length-append, take-append-drop, List·
 use lib.Seq.{take-append-le, take-at, getD-at, take-take}
 use borrow.Author.Tests.{eqb-true, eqb-false, eq-eqb, ne-eqb, not-true, not-false}
 use Rattle.model.specs.Lists.{within, uptoFrom, Mem, Every, keepIf, keep, any, isEmpty}
-use Rattle.model.specs.Choice.{Choice}
-use Rattle.model.specs.Order.{runs, starts, starting, named, badName, wrongNames, blocked, someBlocked, left, ready, startable, startNext, startedAfter, startOrder, StepFinds, times, Waits, Ordered}
+use Rattle.model.specs.Order.{Running, starts, starting, named, badName, wrongNames, blocked, someBlocked, left, ready, startable, startNext, startedAfter, startOrder, StepFinds, times, Waits, Ordered}
 use Rattle.model.proofs.ListLaws.{both-true, either-false, within-is, any-false, every-kept}
 use Rattle.model.proofs.IntegerLaws.{split}
 use Rattle.model.proofs.KeepLaws.{keep-keep, keep-all, any-join, any-mem, mem-any, every-from, keep-lowest, Lowest, lowest-of, keep-some, keep-less, times-join, times-keep, times-upto, times-once}
 
 -- ---- a load that is not ready waits for another
 
-pub unready : (old : Choice) (names started : List ℕ) (k : ℕ) → ready old names started k ≡ false → Waits old names started k
+pub unready : (old : Running) (names started : List ℕ) (k : ℕ) → ready old names started k ≡ false → Waits old names started k
 unfolding ready
 unready old names started k e =
-    let h = either-false (eqb (named names k) 0 || runs old (named names k)) (any (eqb (named names k)) started) e in
-    let g = either-false (eqb (named names k) 0) (runs old (named names k)) (h .0) in
+    let h = either-false (eqb (named names k) 0 || old (named names k)) (any (eqb (named names k)) started) e in
+    let g = either-false (eqb (named names k) 0) (old (named names k)) (h .0) in
     record {
       names-one = eqb-false (named names k) 0 (g .0);
       stands = g .1;
@@ -49,7 +48,7 @@ module _ (n : ℕ) (names : List ℕ) (right : wrongNames n names ≡ false) whe
       eqb-true (length names) n
       (not-false (eqb (length names) n) (either-false (not (eqb (length names) n)) (any (badName n names) (uptoFrom 1 n)) right .0))
 
-module _ (n : ℕ) (old new : Choice) (names : List ℕ) where
+module _ (n : ℕ) (old new : Running) (names : List ℕ) where
   -- ---- those left, and those of them that may start, by one test
 
   abbrev pub waiting : List ℕ → ℕ → Bool
@@ -70,14 +69,14 @@ module _ (n : ℕ) (old new : Choice) (names : List ℕ) where
 
   module _ (right : wrongNames n names ≡ false) (free : someBlocked n old new names ≡ false) where
     -- a starting load's named load runs in the new sheet
-    named-runs : (k : ℕ) → 1 ≤ k → k < 1 + n → starts old new k ≡ true → (named names k ≡ 0 → ⊥) → runs new (named names k) ≡ true
+    named-runs : (k : ℕ) → 1 ≤ k → k < 1 + n → starts old new k ≡ true → (named names k ≡ 0 → ⊥) → new (named names k) ≡ true
     unfolding someBlocked starting
     named-runs k a b s some =
         let each = every-kept (λ j. blocked new names j ≡ false) (starts old new) (uptoFrom 1 n)
         (any-false (blocked new names) (keep (starts old new) (uptoFrom 1 n)) free) in
         let unbarred : blocked new names k ≡ false
         = every-from (λ j. T (starts old new j) → blocked new names j ≡ false) 1 n each k a b (subst T (sym s) tt) in
-        not-false (runs new (named names k)) (sym (ap (λ t. not t && not (runs new (named names k))) (ne-eqb (named names k) 0 some)) ∙ unbarred)
+        not-false (new (named names k)) (sym (ap (λ t. not t && not (new (named names k))) (ne-eqb (named names k) 0 some)) ∙ unbarred)
 
     -- from a load that is left, along the names, to one that may start; `more` bounds how many follow
     find : (more : ℕ) (started : List ℕ) (k : ℕ) → 1 ≤ k → k < 1 + n → n < k + more → waiting started k ≡ true
@@ -95,7 +94,7 @@ module _ (n : ℕ) (old new : Choice) (names : List ℕ) where
             let higher = name-higher n names right k a b (waits .names-one) in
             let begun = both-true (starts old new k) (not (any (eqb k) started)) w .0 in
             rest m (omega (arith, higher .0)) (omega (arith, higher .1)) (omega (arith, higher .0))
-            (ap₂ (λ x y. (not (runs old m) && x) && not y) (named-runs k a b begun (waits .names-one)) (unlisted m (waits .not-started) (any (eqb m) started) refl)
+            (ap₂ (λ x y. (not (old m) && x) && not y) (named-runs k a b begun (waits .names-one)) (unlisted m (waits .not-started) (any (eqb m) started) refl)
             ∙ ap (λ x. (not x && true) && true) (waits .stands))
           where
             unlisted : (m : ℕ) → (Mem m started → ⊥) → (t : Bool) → any (eqb m) started ≡ t → any (eqb m) started ≡ false
@@ -110,20 +109,20 @@ step-finds n old new names started right free e =
 
 -- ---- what is left after a step
 
-or-false : (t : Bool) → (t || false) ≡ t
+pub or-false : (t : Bool) → (t || false) ≡ t
 or-false true = refl
 or-false false = refl
 
-or-true : (t : Bool) → (t || true) ≡ true
+pub or-true : (t : Bool) → (t || true) ≡ true
 or-true true = refl
 or-true false = refl
 
 -- whether load j has been started, once load k is
-listed-other : (xs : List ℕ) (j k : ℕ) → (j ≡ k → ⊥) → any (eqb j) (xs ++ k ∷ []) ≡ any (eqb j) xs
+pub listed-other : (xs : List ℕ) (j k : ℕ) → (j ≡ k → ⊥) → any (eqb j) (xs ++ k ∷ []) ≡ any (eqb j) xs
 listed-other xs j k h =
     any-join (eqb j) xs (k ∷ []) ∙ ap (λ t. any (eqb j) xs || (t || false)) (ne-eqb j k h) ∙ or-false (any (eqb j) xs)
 
-listed-last : (xs : List ℕ) (k : ℕ) → any (eqb k) (xs ++ k ∷ []) ≡ true
+pub listed-last : (xs : List ℕ) (k : ℕ) → any (eqb k) (xs ++ k ∷ []) ≡ true
 listed-last xs k =
     any-join (eqb k) xs (k ∷ []) ∙ ap (λ t. any (eqb k) xs || (t || false)) (eq-eqb k k refl) ∙ or-true (any (eqb k) xs)
 
@@ -131,7 +130,7 @@ filled : (xs : List ℕ) → 0 < length xs → isEmpty xs ≡ false
 filled [] h = absurd (omega arith)
 filled (x ∷ xs) h = refl
 
-module _ (n : ℕ) (old new : Choice) (names : List ℕ) where
+module _ (n : ℕ) (old new : Running) (names : List ℕ) where
   abbrev waitsFor : List ℕ → ℕ → Bool
   waitsFor = waiting n old new names
 
@@ -295,16 +294,16 @@ module _ (n : ℕ) (old new : Choice) (names : List ℕ) where
         go true e = omega (arith, times-once k 1 n)
         go false e = omega arith
 
-    comes-behind : (i : ℕ) → i < length order → starts old new (named names (getD order i 0)) ≡ true
+    comes-behind : new 0 ≡ false → (i : ℕ) → i < length order → starts old new (named names (getD order i 0)) ≡ true
         → Mem (named names (getD order i 0)) (take i order)
     unfolding ready
-    comes-behind i l s = go (named names (getD order i 0)) (both-true _ _ s) (order-run .places i l .may)
+    comes-behind none i l s = go (named names (getD order i 0)) (both-true _ _ s) (order-run .places i l .may)
       where
-        go : (m : ℕ) → (not (runs old m) ≡ true) × (runs new m ≡ true) → (eqb m 0 || runs old m || any (eqb m) (take i order)) ≡ true → Mem m (take i order)
-        go zero h e = absurd (false≢true (h .1))
+        go : (m : ℕ) → (not (old m) ≡ true) × (new m ≡ true) → (eqb m 0 || old m || any (eqb m) (take i order)) ≡ true → Mem m (take i order)
+        go zero h e = absurd (false≢true (sym none ∙ h .1))
         go (suc m) h e =
             any-mem (suc m) (take i order)
-            (sym (ap (λ t. t || any (eqb (suc m)) (take i order)) (ap₂ _||_ (ne-eqb (suc m) 0 (λ q. omega arith)) (not-true (runs old (suc m)) (h .0)))) ∙ e)
+            (sym (ap (λ t. t || any (eqb (suc m)) (take i order)) (ap₂ _||_ (ne-eqb (suc m) 0 (λ q. omega arith)) (not-true (old (suc m)) (h .0)))) ∙ e)
 
     takes-lowest : (i j : ℕ) → i < j → j < length order → getD order j 0 < getD order i 0 → Waits old names (take i order) (getD order j 0)
     takes-lowest i j l m h =
@@ -323,11 +322,12 @@ module _ (n : ℕ) (old new : Choice) (names : List ℕ) where
             ∙ ap (any (eqb k)) (ap (λ xs. xs ++ drop i (take j order)) (sym (take-take i j order (omega arith))) ∙ take-append-drop i (take j order))
             ∙ e) .0
 
-    pub order-kept : Ordered n old new names order
-    order-kept =
+    -- where there is no load 0
+    pub order-kept : new 0 ≡ false → Ordered n old new names order
+    order-kept none =
         record {
           rearranged = rearranges;
           once = λ k. omega (arith, rearranges k, starting-once k);
-          behind = comes-behind;
+          behind = comes-behind none;
           lowest = takes-lowest;
         }

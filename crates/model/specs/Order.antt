@@ -1,5 +1,5 @@
 -- The order of starting (document 02, M-101): "From the running sheet and the new sheet of one book, a new part writes the loads that start (standing in
--- the first, running in the second), a byte each, in order". Loads go by their numbers, 1 to n; `old` is the running sheet's choice, `new` the new sheet's.
+-- the first, running in the second), a byte each, in order". Loads go by their numbers, from 1 to n.
 use Prim.Native.Nat.{ℕ, zero, suc, _+_, _-_, _*_, _^_, _<_, _≤_}
 use mathlib.Core.Path.{_≡_}
 use mathlib.Core.Bool.{Bool, true, false, cond, not, _&&_, _||_}
@@ -20,37 +20,45 @@ use Rattle.model.specs.SheetReader.{sheetChoice}
 
 -- ---- the loads that start
 
--- load k runs: its c is not 0; there is no load 0
-abbrev pub runs : Choice → ℕ → Bool
-runs c zero = false
-runs c (suc k) = not (eqb (getD c k noSetting .number) 0)
+-- which loads run; `old` are those of the running sheet, and `new` those of the new one
+abbrev pub Running : Type 0
+Running = ℕ → Bool
+
+-- on a choice: load k runs where its c is not 0; there is no load 0
+abbrev pub runningOn : Choice → Running
+runningOn c zero = false
+runningOn c (suc k) = not (eqb (getD c k noSetting .number) 0)
 
 -- "standing in the first, running in the second"; a change of level is no start
-abbrev pub starts : Choice → Choice → ℕ → Bool
-starts old new k = not (runs old k) && runs new k
+abbrev pub starts : Running → Running → ℕ → Bool
+starts old new k = not (old k) && new k
 
 -- the loads that start, by ascending number; with `old` and `new` exchanged, those that stop
-unfoldable pub starting : ℕ → Choice → Choice → List ℕ
+unfoldable pub starting : ℕ → Running → Running → List ℕ
 starting n old new = keep (starts old new) (uptoFrom 1 n)
 
 -- ---- "It reports starts and stops, each counted as the ones in a mask of 24 loads"
 
--- the mask of the loads that run: bit k - 1 is load k's
-abbrev pub runningMask : Choice → ℕ
-runningMask [] = 0
-runningMask (v ∷ c) = cond (eqb (v .number) 0) 0 1 + 2 * runningMask c
+-- the mask of n loads from load k on: the lowest bit is load k's
+abbrev pub maskFrom : Running → ℕ → ℕ → ℕ
+maskFrom on k zero = 0
+maskFrom on k (suc n) = cond (on k) 1 0 + 2 * maskFrom on (suc k) n
+
+-- of all loads: bit k - 1 is load k's
+unfoldable pub runningMask : ℕ → Running → ℕ
+runningMask n on = maskFrom on 1 n
 
 -- the loads in one mask of 24 and not in another
 unfoldable pub andNot : ℕ → ℕ → ℕ
 andNot x y = bitAnd x (2 ^ mostLoads - 1 - y)
 
 -- starts; with `old` and `new` exchanged, stops
-unfoldable pub startCount : Choice → Choice → ℕ
-startCount old new = ones (andNot (runningMask new) (runningMask old))
+unfoldable pub startCount : ℕ → Running → Running → ℕ
+startCount n old new = ones (andNot (runningMask n new) (runningMask n old))
 
 -- the ones are as many as the loads that start (proofs/MaskLaws, `starts-counted`)
 abbrev pub StartsCounted : Type 0
-StartsCounted = (n : ℕ) (old new : Choice) → length old ≡ n → length new ≡ n → n ≤ mostLoads → startCount old new ≡ length (starting n old new)
+StartsCounted = (n : ℕ) (old new : Running) → n ≤ mostLoads → startCount n old new ≡ length (starting n old new)
 
 -- ---- names
 
@@ -68,24 +76,24 @@ unfoldable pub wrongNames : ℕ → List ℕ → Bool
 wrongNames n names = not (eqb (length names) n) || any (badName n names) (uptoFrom 1 n)
 
 -- the named load stands in the new sheet
-abbrev pub blocked : Choice → List ℕ → ℕ → Bool
-blocked new names k = not (eqb (named names k) 0) && not (runs new (named names k))
+abbrev pub blocked : Running → List ℕ → ℕ → Bool
+blocked new names k = not (eqb (named names k) 0) && not (new (named names k))
 
 -- 16: "a starting load's named load stands in the new sheet"
-unfoldable pub someBlocked : ℕ → Choice → Choice → List ℕ → Bool
+unfoldable pub someBlocked : ℕ → Running → Running → List ℕ → Bool
 someBlocked n old new names = any (blocked new names) (starting n old new)
 
 -- ---- the order
 
 -- "those left", once the loads in `started` have been started
-unfoldable pub left : ℕ → Choice → Choice → List ℕ → List ℕ
+unfoldable pub left : ℕ → Running → Running → List ℕ → List ℕ
 left n old new started = keep (λ k. not (any (eqb k) started)) (starting n old new)
 
 -- those "that name none, or whose named load runs in the first sheet or has been started"
-unfoldable pub ready : Choice → List ℕ → List ℕ → ℕ → Bool
-ready old names started k = eqb (named names k) 0 || runs old (named names k) || any (eqb (named names k)) started
+unfoldable pub ready : Running → List ℕ → List ℕ → ℕ → Bool
+ready old names started k = eqb (named names k) 0 || old (named names k) || any (eqb (named names k)) started
 
-module _ (n : ℕ) (old new : Choice) (names : List ℕ) where
+module _ (n : ℕ) (old new : Running) (names : List ℕ) where
   -- those of them that may start now
   abbrev pub startable : List ℕ → List ℕ
   startable started = keep (ready old names started) (left n old new started)
@@ -105,13 +113,13 @@ module _ (n : ℕ) (old new : Choice) (names : List ℕ) where
 
 -- a step finds a load while any is left: a name is that of a higher load, and no load that starts is blocked (proofs/StartLaws, `step-finds`)
 abbrev pub StepFinds : Type 0
-StepFinds = (n : ℕ) (old new : Choice) (names started : List ℕ) → wrongNames n names ≡ false → someBlocked n old new names ≡ false
+StepFinds = (n : ℕ) (old new : Running) (names started : List ℕ) → wrongNames n names ≡ false → someBlocked n old new names ≡ false
     → isEmpty (left n old new started) ≡ false → isEmpty (startable n old new names started) ≡ false
 
 -- ---- the part's result
 
 -- "15 when .., and 16 when ..; they come in this order after 13, then 11 if the order doesn't fit the buffer", which has room for so many bytes
-abbrev pub orderRules : ℕ → Choice → Choice → List ℕ → ℕ → List Rule
+abbrev pub orderRules : ℕ → Running → Running → List ℕ → ℕ → List Rule
 orderRules n old new names room =
     (wrongNames n names ⇒ WrongNames)
     ∷ (someBlocked n old new names ⇒ NamedLoadStands)
@@ -124,17 +132,19 @@ pub record OrderData : Type 0 where
   pub starts : ℕ
   pub stops : ℕ
 
-abbrev pub orderData : ℕ → Choice → Choice → List ℕ → OrderData
-orderData n old new names = record { order = startOrder n old new names; starts = startCount old new; stops = startCount new old }
+abbrev pub orderData : ℕ → Running → Running → List ℕ → OrderData
+orderData n old new names = record { order = startOrder n old new names; starts = startCount n old new; stops = startCount n new old }
 
--- of two choices; "numbers from 14 on carry line 0", as 11 does
-unfoldable pub choicesOrder : ℕ → List ℕ → ℕ → Choice → Choice → Result OrderData
-choicesOrder n names room old new = checked 0 (first (orderRules n old new names room)) (done (orderData n old new names))
+-- for n loads; "numbers from 14 on carry line 0", as 11 does
+unfoldable pub loadsOrder : ℕ → List ℕ → ℕ → Running → Running → Result OrderData
+loadsOrder n names room old new = checked 0 (first (orderRules n old new names room)) (done (orderData n old new names))
 
 -- "after 13": for the running sheet, then for the new one
 unfoldable pub sheetsOrder : List ℕ → List ℕ → List ℕ → ℕ → Problem → Result OrderData
 sheetsOrder running planned names room b =
-    andThen (sheetChoice running b) (λ old. andThen (sheetChoice planned b) (choicesOrder (length (b .loads)) names room old))
+    andThen (sheetChoice running b) (λ old.
+    andThen (sheetChoice planned b) (λ new.
+    loadsOrder (length (b .loads)) names room (runningOn old) (runningOn new)))
 
 -- the result of a book, the two sheets and the names, for a buffer with room for so many bytes
 unfoldable pub orderResult : List ℕ → List ℕ → List ℕ → List ℕ → ℕ → Result OrderData
@@ -167,12 +177,12 @@ abbrev pub times : ℕ → List ℕ → ℕ
 times k xs = length (keep (eqb k) xs)
 
 -- load k is not ready: it names a load that stands in the running sheet and is not among those started
-pub record Waits (old : Choice) (names started : List ℕ) (k : ℕ) : Type 0 where
+pub record Waits (old : Running) (names started : List ℕ) (k : ℕ) : Type 0 where
   pub names-one : named names k ≡ 0 → ⊥
-  pub stands : runs old (named names k) ≡ false
+  pub stands : old (named names k) ≡ false
   pub not-started : Mem (named names k) started → ⊥
 
-pub record Ordered (n : ℕ) (old new : Choice) (names order : List ℕ) : Type 0 where
+pub record Ordered (n : ℕ) (old new : Running) (names order : List ℕ) : Type 0 where
   -- "a rearrangement of exactly the starting loads": each number stands in it as often as among them, which is at most once
   pub rearranged : (k : ℕ) → times k order ≡ times k (starting n old new)
   pub once : (k : ℕ) → times k order ≤ 1
@@ -189,7 +199,7 @@ pub record OrderKept (book running planned names buffer : List ℕ) (r : OrderAn
   pub runs-now : sheetChoice running b ≡ done old
   pub new : Choice
   pub runs-next : sheetChoice planned b ≡ done new
-  pub ordered : Ordered (length (b .loads)) old new names (take (r .answer .bytes) buffer)
+  pub ordered : Ordered (length (b .loads)) (runningOn old) (runningOn new) names (take (r .answer .bytes) buffer)
   -- the numbers of loads that start and that stop
-  pub starts : r .starts ≡ length (starting (length (b .loads)) old new)
-  pub stops : r .stops ≡ length (starting (length (b .loads)) new old)
+  pub starts : r .starts ≡ length (starting (length (b .loads)) (runningOn old) (runningOn new))
+  pub stops : r .stops ≡ length (starting (length (b .loads)) (runningOn new) (runningOn old))
