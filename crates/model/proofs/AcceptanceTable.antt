@@ -1,5 +1,6 @@
--- The proved table: document 01's starred cases ("Trials at the bench"), the ends of M-102's range, two overloads near M-106's bound, charges (M-100), and
--- edges where a near mistake shows, as one table of facts about the definitions, with one statement covering it. Star n is the n-th star of document 01.
+-- The proved table: document 01's starred cases ("Trials at the bench"), the ends of M-102's range, two overloads near M-106's bound, charges (M-100),
+-- orders of starting (M-101), and edges where a near mistake shows, as one table of facts about the definitions, with one statement covering it. Star n is
+-- the n-th star of document 01.
 -- Assumes nothing.
 use mathlib.Core.Path.{_≡_, refl}
 use mathlib.Core.Bool.{Bool, true, false, _&&_}
@@ -7,13 +8,14 @@ use mathlib.Core.List.{List, [], _∷_, _++_, map}
 use Prim.Native.Nat.{ℕ, suc, _+_, _*_, _-_}
 use Prim.Native.String.{String, [] as ε, _∷_ as _⸬_}
 use Prim.Native.Char.{code}
+use lib.Count.{onesIn, ones}
 use lib.Dec.{leb, ltb, eqb}
 use lib.IntN.{ℤ, pos, negℤ}
 use lib.ListN.{length, replicate}
 use Rattle.model.specs.declared.ChargeAnswer.{ChargeAnswer}
-use Rattle.model.specs.Lists.{upto, all, concat, sameLists}
+use Rattle.model.specs.Lists.{upto, all, any, concat, sameLists}
 use Rattle.model.specs.Frames.{isDigit, digitValue, digit, valueFrom, field, digits, signed, unsigned, lineLength}
-use Rattle.model.specs.Refusals.{Result, refused, done, first}
+use Rattle.model.specs.Refusals.{Result, refused, done, numberOf, first}
 use Rattle.model.specs.Book.{Problem, optionStart, headerRules, someExceeds, loadRules, readLoads, readBook}
 use Rattle.model.specs.Choice.{square}
 use Rattle.model.specs.Grid.{stepFor, slotsOf, floorDiv, bestAdmitted, plan}
@@ -26,6 +28,7 @@ use Rattle.model.specs.Demand.{apparentSquaredIn, closerBound}
 use Rattle.model.specs.Rounding.{floorBySum}
 use Rattle.model.specs.SheetReader.{sheetChoice}
 use Rattle.model.specs.Charge.{rounded, chargeOf, choiceCharge, sheetCharge, chargeResult, chargeAnswerOf}
+use Rattle.model.specs.Order.{Running, starting, runningMask, andNot, startCount, wrongNames, someBlocked, left, ready, startNext, startedAfter, startOrder, OrderData, loadsOrder, sheetsOrder, orderResult}
 
 abbrev pub bytesOf : String → List ℕ
 bytesOf ε = []
@@ -53,6 +56,11 @@ pub data Row : Type 0 where
   roundsCharge : ℕ → ℕ → Row
   -- the number, the line and the charge that a book, a sheet and prices are answered with
   charges : List ℕ → List ℕ → List ℕ → List ℕ → Row
+  -- for five loads, of which these run in the running sheet and those in the new one, with these names and room for so many bytes: the number, the starts,
+  -- the stops and the order; or the number and the line
+  orders : List ℕ → List ℕ → List ℕ → ℕ → List ℕ → Row
+  -- the same for three loads, from the sheet with these c to that with those
+  ordersFrom : String → String → List ℕ → ℕ → List ℕ → Row
 
 abbrev printsFor : String → String → Bool
 printsFor book out = sameLists eqb (programOutput (bytesOf book)) (bytesOf out)
@@ -77,6 +85,22 @@ nearBound d s z = ltb (square (2 * d + 2) * square s) (4 * square d * z) && leb 
 abbrev chargeNumbers : ChargeAnswer → List ℕ
 chargeNumbers a = a .answer .number ∷ a .answer .line ∷ a .charge ∷ []
 
+-- the loads in a list
+abbrev among : List ℕ → Running
+among loads k = any (eqb k) loads
+
+-- three loads of two levels that draw nothing, and a sheet with these c
+abbrev levelsBook : List ℕ
+levelsBook = bytesOf "01010301000000640064\n" ++ concat (replicate 3 (bytesOf "0202000000000000000000000000\n"))
+
+abbrev levelsSheet : String → List ℕ
+levelsSheet cs = bytesOf "040000000000000000" ++ bytesOf cs ++ bytesOf "\n0500000000000000000064\n"
+
+-- what is shown of an order
+abbrev orderNumbers : Result OrderData → List ℕ
+orderNumbers (refused r line) = numberOf r ∷ line ∷ []
+orderNumbers (done x) = 0 ∷ x .starts ∷ x .stops ∷ x .order
+
 -- the trials that load k + 1 adds
 abbrev triesOf : Problem → ℕ → ℕ
 triesOf b k = trialsUpto (slotsOf b) (b .loads) (suc k) - trialsUpto (slotsOf b) (b .loads) k
@@ -92,6 +116,9 @@ holds (carries book m x y) = readWith (inSlots (λ d s z. eqb z x && eqb (square
 holds (overloads book out) = printsFor book out && readWith (inSlots nearBound) book
 holds (roundsCharge n r) = eqb (rounded n) r
 holds (charges book sheet prices numbers) = sameLists eqb (chargeNumbers (chargeAnswerOf (chargeResult book sheet prices))) numbers
+holds (orders old new names room numbers) = sameLists eqb (orderNumbers (loadsOrder 5 names room (among old) (among new))) numbers
+holds (ordersFrom old new names room numbers) =
+    sameLists eqb (orderNumbers (orderResult levelsBook (levelsSheet old) (levelsSheet new) names room)) numbers
 
 -- two slots, and one load with P = 20 and P = 4; and the sheet on which it runs
 abbrev halvesBook : List ℕ
@@ -138,6 +165,29 @@ rows =
     -- M-100, two faults: 13 comes before 14, and the book's 7 before both
     ∷ charges halvesBook [] [] (13 ∷ 0 ∷ 0 ∷ [])
     ∷ charges (bytesOf "01010101000000640064\n020100010004FFFB\n") [] [] (7 ∷ 2 ∷ 0 ∷ [])
+    -- M-101, where loads 1, 2 and 4 name 4, 5 and 5: all start, the lowest of those ready first; highest first would be 5, 4, 3, 2, 1
+    ∷ orders [] (1 ∷ 2 ∷ 3 ∷ 4 ∷ 5 ∷ []) (4 ∷ 5 ∷ 0 ∷ 5 ∷ 0 ∷ []) 5 (0 ∷ 5 ∷ 0 ∷ 3 ∷ 5 ∷ 2 ∷ 4 ∷ 1 ∷ [])
+    -- M-101: load 5 runs already, so loads 2 and 4 are ready at once
+    ∷ orders (5 ∷ []) (1 ∷ 2 ∷ 3 ∷ 4 ∷ 5 ∷ []) (4 ∷ 5 ∷ 0 ∷ 5 ∷ 0 ∷ []) 24 (0 ∷ 4 ∷ 0 ∷ 2 ∷ 3 ∷ 4 ∷ 1 ∷ [])
+    -- M-101: loads 1 and 2 stop, load 3 starts
+    ∷ orders (1 ∷ 2 ∷ []) (3 ∷ []) (0 ∷ 0 ∷ 0 ∷ 0 ∷ 0 ∷ []) 1 (0 ∷ 1 ∷ 2 ∷ 3 ∷ [])
+    -- M-101: an order of nothing fits a buffer of 0 bytes; one of two fits a buffer of 2, but not of 1
+    ∷ orders (1 ∷ 5 ∷ []) (1 ∷ 5 ∷ []) (5 ∷ 5 ∷ 5 ∷ 5 ∷ 0 ∷ []) 0 (0 ∷ 0 ∷ 0 ∷ [])
+    ∷ orders [] (1 ∷ 2 ∷ []) (2 ∷ 0 ∷ 0 ∷ 0 ∷ 0 ∷ []) 2 (0 ∷ 2 ∷ 0 ∷ 2 ∷ 1 ∷ [])
+    ∷ orders [] (1 ∷ 2 ∷ []) (2 ∷ 0 ∷ 0 ∷ 0 ∷ 0 ∷ []) 1 (11 ∷ 0 ∷ [])
+    -- M-101, 15: a name too few, one too many, a load's own number, a lower one, and one above N, though no load starts
+    ∷ orders [] [] (0 ∷ 0 ∷ 0 ∷ 0 ∷ []) 0 (15 ∷ 0 ∷ [])
+    ∷ orders [] [] (0 ∷ 0 ∷ 0 ∷ 0 ∷ 0 ∷ 0 ∷ []) 0 (15 ∷ 0 ∷ [])
+    ∷ orders [] [] (0 ∷ 0 ∷ 3 ∷ 0 ∷ 0 ∷ []) 0 (15 ∷ 0 ∷ [])
+    ∷ orders [] [] (0 ∷ 0 ∷ 0 ∷ 0 ∷ 1 ∷ []) 0 (15 ∷ 0 ∷ [])
+    ∷ orders [] [] (6 ∷ 0 ∷ 0 ∷ 0 ∷ 0 ∷ []) 0 (15 ∷ 0 ∷ [])
+    -- M-101, 16: the named load stands in both sheets, or stops; but not where the load that names it runs already
+    ∷ orders [] (1 ∷ []) (4 ∷ 0 ∷ 0 ∷ 0 ∷ 0 ∷ []) 1 (16 ∷ 0 ∷ [])
+    ∷ orders (4 ∷ []) (1 ∷ []) (4 ∷ 0 ∷ 0 ∷ 0 ∷ 0 ∷ []) 1 (16 ∷ 0 ∷ [])
+    ∷ orders (1 ∷ 4 ∷ []) (1 ∷ []) (4 ∷ 0 ∷ 0 ∷ 0 ∷ 0 ∷ []) 0 (0 ∷ 0 ∷ 1 ∷ [])
+    -- M-101, two faults: 15 before 16, and 16 before 11
+    ∷ orders [] (1 ∷ []) (4 ∷ 2 ∷ 0 ∷ 0 ∷ 0 ∷ []) 1 (15 ∷ 0 ∷ [])
+    ∷ orders [] (1 ∷ []) (4 ∷ 0 ∷ 0 ∷ 0 ∷ 0 ∷ []) 0 (16 ∷ 0 ∷ [])
     -- an edge, two faults on one line: a byte G and kind 03, and 2 comes before 3
     ∷ prints "030G\n" "FF020001\n"
     -- an edge, the same: 5 slots and no limit, and 4 comes before 5
@@ -184,6 +234,11 @@ rows =
     -- star 11: |Q| = P is read, |Q| = P + 1 is refused
     ∷ reads "01010101000000640064\n020100010004FFFC\n"
     ∷ prints "01010101000000640064\n020100010004FFFB\n" "FF070002\n"
+    -- M-101: load 1 stops, load 2 changes its level, load 3 starts
+    ∷ ordersFrom "010100" "000201" (0 ∷ 0 ∷ 0 ∷ []) 1 (0 ∷ 1 ∷ 1 ∷ 3 ∷ [])
+    -- M-101, two faults: 13 of either sheet comes before 15
+    ∷ ordersFrom "030000" "000000" [] 0 (13 ∷ 0 ∷ [])
+    ∷ ordersFrom "000000" "030000" [] 0 (13 ∷ 0 ∷ [])
     -- M-100: the largest charge
     ∷ charges fullBook fullSheet (65535 ∷ 65535 ∷ 65535 ∷ 65535 ∷ []) (0 ∷ 0 ∷ 10307606940 ∷ [])
     ∷ []
@@ -193,4 +248,5 @@ unfolding holds rows programOutput refusalLine plannerResult planSheet fittingBo
     readBook readLoads headerRules loadRules someExceeds optionStart first isDigit digitValue digit valueFrom field digits signed unsigned lineLength
     slotsOf plan bestAdmitted cells trials reachedCount sheetBytes firstLine slotLines slotLine numbersOf quickResult quickSheet quickChoice takeIfFits sizeOf optionOne
     chargeResult sheetCharge choiceCharge chargeOf rounded sheetChoice
+    orderResult sheetsOrder loadsOrder starting runningMask andNot startCount wrongNames someBlocked left ready startNext startedAfter startOrder ones onesIn
 table-holds = refl
