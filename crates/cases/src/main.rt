@@ -1,5 +1,5 @@
-// Runs the planner, the quick planner, the sheet reader and the charge on fixed books and sheets, and prints each answer. Every
-// refusal is reached: 1 to 8 with its line, and 9 to 14. The stored output is what documents 01 and 02 say.
+// Runs the planner, the quick planner, the sheet reader, the charge and the order of starting on fixed books and sheets, and prints
+// each answer. Every refusal is reached: 1 to 8 with its line, and 9 to 16. The stored output is what documents 01 and 02 say.
 use libc::STDOUT_FILENO;
 use model::Answer;
 
@@ -229,6 +229,50 @@ fn charges() {
     charge_case(b"foreign, no price", b"", &prices[..0]);
 }
 
+// A byte of a buffer, if it has so many.
+fn print_byte(bytes: &[u8], at: usize) {
+    if at < bytes.len() {
+        print_field(b" ", bytes[at] as u64);
+    }
+}
+
+// The order from a sheet of document 01's example on which load 3 runs to its plan, on which loads 1 and 2 run; then the buffer, byte by byte.
+fn order_case(name: &[u8], names: &[u8], order: &mut [u8]) {
+    let ordered = order::order(
+        b"0101030400000064000A\n0201000500050005\n020100050004FFFC\n0201000400040000\n",
+        b"040000000400000000000001\n050000000400000000000A\n",
+        b"040000000A0000000E010100\n050000000900000001000A\n",
+        names,
+        order,
+    );
+    let answer = ordered.answer;
+    print_numbers(name, b": order, number ", answer);
+    print_field(b" starts ", ordered.starts);
+    print_field(b" stops ", ordered.stops);
+    print(b", buffer");
+    print_byte(order, 0);
+    print_byte(order, 1);
+    print(b"\n");
+}
+
+// The same, where loads 1 and 2 name these.
+fn named_case(name: &[u8], first: u8, second: u8, order: &mut [u8]) {
+    let mut names = [0u8; 3];
+    names[0] = first;
+    names[1] = second;
+    order_case(name, &names, order);
+}
+
+// Load 1 names load 2, and no other is named; a load that names itself; a named load that stops; and a buffer of one byte.
+fn orders() {
+    let mut one = [46u8; 1];
+    let mut two = [46u8; 2];
+    named_case(b"own number", 1, 0, &mut two);
+    named_case(b"a named load stops", 2, 3, &mut two);
+    named_case(b"no sheet", 2, 0, &mut one);
+    named_case(b"two to start", 2, 0, &mut two);
+}
+
 fn main() {
     unreadable_books();
     misshapen_books();
@@ -241,4 +285,5 @@ fn main() {
     refused_budgets();
     plans();
     charges();
+    orders();
 }

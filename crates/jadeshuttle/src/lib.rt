@@ -1,6 +1,8 @@
-// The public calls for programs in C and other languages: the planner, the quick planner, the sheet reader and the charge.
+// The public calls for programs in C and other languages: the planner, the quick planner, the sheet reader, the charge and
+// the order of starting.
 use model::Answer;
 use model::ChargeAnswer;
+use model::OrderAnswer;
 use model::SheetAnswer;
 ghost use mathlib.Core.Path.{_≡_};
 ghost use Prim.Native.Nat.{_≤_};
@@ -12,6 +14,7 @@ ghost use Rattle.model.specs.Quick.{quickResult};
 ghost use Rattle.model.specs.SheetReader.{readerResult, sheetAnswerOf};
 ghost use Rattle.model.specs.Demand.{Demand3};
 ghost use Rattle.model.specs.Charge.{chargeResult, chargeAnswerOf};
+ghost use Rattle.model.specs.Order.{orderResult, WritesOrder, OrderKept};
 ghost use Rattle.model.specs.Bounds.{mostCharge};
 
 // The planner: the sheet of the plan, or the first refusal of 1 to 12.
@@ -47,4 +50,19 @@ pub extern "C" fn jadeshuttle_charge(book: &[u8], sheet: &[u8], prices: &[u16]) 
     ensures most { λ r. ⌜ r .charge ≤ mostCharge ⌝ }
 {
     charge::charge(book, sheet, prices)
+}
+
+// The order of starting: the loads that start from the running sheet to the new one, or refusals 13, 15, 16 and 11; the book's own refusals come first.
+#[no_mangle]
+pub extern "C" fn jadeshuttle_order(
+    book: &[u8],
+    running: &[u8],
+    planned: &[u8],
+    names: &[u8],
+    order: &mut [u8],
+) -> OrderAnswer
+    ensures result { λ r. ⌜ WritesOrder (orderResult (now (book .entry)) (now (running .entry)) (now (planned .entry)) (now (names .entry)) (length (now (order .entry)))) (now (order .entry)) (now (order .exit)) r ⌝ }
+    ensures kept { λ r. ⌜ (r .answer .number ≡ 0 → OrderKept (now (book .entry)) (now (running .entry)) (now (planned .entry)) (now (names .entry)) (now (order .exit)) r) ⌝ }
+{
+    order::order(book, running, planned, names, order)
 }

@@ -56,10 +56,10 @@ pub data Row : Type 0 where
   roundsCharge : ℕ → ℕ → Row
   -- the number, the line and the charge that a book, a sheet and prices are answered with
   charges : List ℕ → List ℕ → List ℕ → List ℕ → Row
-  -- for five loads, of which these run in the running sheet and those in the new one, with these names and room for so many bytes: the number, the starts,
+  -- for three loads, of which these run in the running sheet and those in the new one, with these names and room for so many bytes: the number, the starts,
   -- the stops and the order; or the number and the line
   orders : List ℕ → List ℕ → List ℕ → ℕ → List ℕ → Row
-  -- the same for three loads, from the sheet with these c to that with those
+  -- the same from the sheet with these c to that with those
   ordersFrom : String → String → List ℕ → ℕ → List ℕ → Row
 
 abbrev printsFor : String → String → Bool
@@ -116,7 +116,7 @@ holds (carries book m x y) = readWith (inSlots (λ d s z. eqb z x && eqb (square
 holds (overloads book out) = printsFor book out && readWith (inSlots nearBound) book
 holds (roundsCharge n r) = eqb (rounded n) r
 holds (charges book sheet prices numbers) = sameLists eqb (chargeNumbers (chargeAnswerOf (chargeResult book sheet prices))) numbers
-holds (orders old new names room numbers) = sameLists eqb (orderNumbers (loadsOrder 5 names room (among old) (among new))) numbers
+holds (orders old new names room numbers) = sameLists eqb (orderNumbers (loadsOrder 3 names room (among old) (among new))) numbers
 holds (ordersFrom old new names room numbers) =
     sameLists eqb (orderNumbers (orderResult levelsBook (levelsSheet old) (levelsSheet new) names room)) numbers
 
@@ -165,29 +165,28 @@ rows =
     -- M-100, two faults: 13 comes before 14, and the book's 7 before both
     ∷ charges halvesBook [] [] (13 ∷ 0 ∷ 0 ∷ [])
     ∷ charges (bytesOf "01010101000000640064\n020100010004FFFB\n") [] [] (7 ∷ 2 ∷ 0 ∷ [])
-    -- M-101, where loads 1, 2 and 4 name 4, 5 and 5: all start, the lowest of those ready first; highest first would be 5, 4, 3, 2, 1
-    ∷ orders [] (1 ∷ 2 ∷ 3 ∷ 4 ∷ 5 ∷ []) (4 ∷ 5 ∷ 0 ∷ 5 ∷ 0 ∷ []) 5 (0 ∷ 5 ∷ 0 ∷ 3 ∷ 5 ∷ 2 ∷ 4 ∷ 1 ∷ [])
-    -- M-101: load 5 runs already, so loads 2 and 4 are ready at once
-    ∷ orders (5 ∷ []) (1 ∷ 2 ∷ 3 ∷ 4 ∷ 5 ∷ []) (4 ∷ 5 ∷ 0 ∷ 5 ∷ 0 ∷ []) 24 (0 ∷ 4 ∷ 0 ∷ 2 ∷ 3 ∷ 4 ∷ 1 ∷ [])
+    -- M-101, where load 1 names 3: all start, the lowest of those ready first; highest first would be 3, 2, 1
+    ∷ orders [] (1 ∷ 2 ∷ 3 ∷ []) (3 ∷ 0 ∷ 0 ∷ []) 3 (0 ∷ 3 ∷ 0 ∷ 2 ∷ 3 ∷ 1 ∷ [])
+    -- M-101: load 3 runs already, so load 2, which names it, is ready at once
+    ∷ orders (3 ∷ []) (1 ∷ 2 ∷ 3 ∷ []) (2 ∷ 3 ∷ 0 ∷ []) 24 (0 ∷ 2 ∷ 0 ∷ 2 ∷ 1 ∷ [])
     -- M-101: loads 1 and 2 stop, load 3 starts
-    ∷ orders (1 ∷ 2 ∷ []) (3 ∷ []) (0 ∷ 0 ∷ 0 ∷ 0 ∷ 0 ∷ []) 1 (0 ∷ 1 ∷ 2 ∷ 3 ∷ [])
-    -- M-101: an order of nothing fits a buffer of 0 bytes; one of two fits a buffer of 2, but not of 1
-    ∷ orders (1 ∷ 5 ∷ []) (1 ∷ 5 ∷ []) (5 ∷ 5 ∷ 5 ∷ 5 ∷ 0 ∷ []) 0 (0 ∷ 0 ∷ 0 ∷ [])
-    ∷ orders [] (1 ∷ 2 ∷ []) (2 ∷ 0 ∷ 0 ∷ 0 ∷ 0 ∷ []) 2 (0 ∷ 2 ∷ 0 ∷ 2 ∷ 1 ∷ [])
-    ∷ orders [] (1 ∷ 2 ∷ []) (2 ∷ 0 ∷ 0 ∷ 0 ∷ 0 ∷ []) 1 (11 ∷ 0 ∷ [])
+    ∷ orders (1 ∷ 2 ∷ []) (3 ∷ []) (0 ∷ 0 ∷ 0 ∷ []) 1 (0 ∷ 1 ∷ 2 ∷ 3 ∷ [])
+    -- M-101: an order of nothing fits a buffer of 0 bytes; one of two does not fit a buffer of 1
+    ∷ orders (1 ∷ 3 ∷ []) (1 ∷ 3 ∷ []) (3 ∷ 3 ∷ 0 ∷ []) 0 (0 ∷ 0 ∷ 0 ∷ [])
+    ∷ orders [] (1 ∷ 2 ∷ []) (2 ∷ 0 ∷ 0 ∷ []) 1 (11 ∷ 0 ∷ [])
     -- M-101, 15: a name too few, one too many, a load's own number, a lower one, and one above N, though no load starts
+    ∷ orders [] [] (0 ∷ 0 ∷ []) 0 (15 ∷ 0 ∷ [])
     ∷ orders [] [] (0 ∷ 0 ∷ 0 ∷ 0 ∷ []) 0 (15 ∷ 0 ∷ [])
-    ∷ orders [] [] (0 ∷ 0 ∷ 0 ∷ 0 ∷ 0 ∷ 0 ∷ []) 0 (15 ∷ 0 ∷ [])
-    ∷ orders [] [] (0 ∷ 0 ∷ 3 ∷ 0 ∷ 0 ∷ []) 0 (15 ∷ 0 ∷ [])
-    ∷ orders [] [] (0 ∷ 0 ∷ 0 ∷ 0 ∷ 1 ∷ []) 0 (15 ∷ 0 ∷ [])
-    ∷ orders [] [] (6 ∷ 0 ∷ 0 ∷ 0 ∷ 0 ∷ []) 0 (15 ∷ 0 ∷ [])
+    ∷ orders [] [] (0 ∷ 2 ∷ 0 ∷ []) 0 (15 ∷ 0 ∷ [])
+    ∷ orders [] [] (0 ∷ 0 ∷ 1 ∷ []) 0 (15 ∷ 0 ∷ [])
+    ∷ orders [] [] (4 ∷ 0 ∷ 0 ∷ []) 0 (15 ∷ 0 ∷ [])
     -- M-101, 16: the named load stands in both sheets, or stops; but not where the load that names it runs already
-    ∷ orders [] (1 ∷ []) (4 ∷ 0 ∷ 0 ∷ 0 ∷ 0 ∷ []) 1 (16 ∷ 0 ∷ [])
-    ∷ orders (4 ∷ []) (1 ∷ []) (4 ∷ 0 ∷ 0 ∷ 0 ∷ 0 ∷ []) 1 (16 ∷ 0 ∷ [])
-    ∷ orders (1 ∷ 4 ∷ []) (1 ∷ []) (4 ∷ 0 ∷ 0 ∷ 0 ∷ 0 ∷ []) 0 (0 ∷ 0 ∷ 1 ∷ [])
+    ∷ orders [] (1 ∷ []) (2 ∷ 0 ∷ 0 ∷ []) 1 (16 ∷ 0 ∷ [])
+    ∷ orders (2 ∷ []) (1 ∷ []) (2 ∷ 0 ∷ 0 ∷ []) 1 (16 ∷ 0 ∷ [])
+    ∷ orders (1 ∷ 2 ∷ []) (1 ∷ []) (2 ∷ 0 ∷ 0 ∷ []) 0 (0 ∷ 0 ∷ 1 ∷ [])
     -- M-101, two faults: 15 before 16, and 16 before 11
-    ∷ orders [] (1 ∷ []) (4 ∷ 2 ∷ 0 ∷ 0 ∷ 0 ∷ []) 1 (15 ∷ 0 ∷ [])
-    ∷ orders [] (1 ∷ []) (4 ∷ 0 ∷ 0 ∷ 0 ∷ 0 ∷ []) 0 (16 ∷ 0 ∷ [])
+    ∷ orders [] (1 ∷ []) (2 ∷ 2 ∷ 0 ∷ []) 1 (15 ∷ 0 ∷ [])
+    ∷ orders [] (1 ∷ []) (2 ∷ 0 ∷ 0 ∷ []) 0 (16 ∷ 0 ∷ [])
     -- an edge, two faults on one line: a byte G and kind 03, and 2 comes before 3
     ∷ prints "030G\n" "FF020001\n"
     -- an edge, the same: 5 slots and no limit, and 4 comes before 5

@@ -1,6 +1,6 @@
 -- `order::write_order` meets its contract. The invariant: i loads have been started, and stand in the buffer. Assumes nothing.
-use mathlib.Core.Path.{_≡_, refl}
-use Prim.Native.Nat.{_+_, _-_, _<_, _≤_}
+use mathlib.Core.Path.{_≡_, refl, _∙_}
+use Prim.Native.Nat.{_-_, _<_, _≤_}
 use native.Mathlib.Omega.{arith}
 use lib.ListN.{length, length-set}
 use borrow.Author.Needs.{needs}
@@ -70,7 +70,7 @@ loop-again c =
     let a = s .args in
     let l = c .before .before .loop in (
       omega arith,
-      omega (arith, length-set (l .order) (l .i) (c .next-start .result + 1), l .inv .1),
+      length-set (l .order) (l .i) _ ∙ l .inv .1,
       turned-more (a .running) (a .t2) (a .names .now) (a .starts) (length (a .order .now)) (s .pre) (l .i) (a .order .now) (l .order) (l .on) (l .inv .2)
           (omega arith) (c .next-start .result) (c .next-start .ensures) (omega (arith, l .inv .1, s .pre .fits)) (l .inv .1),
     )
