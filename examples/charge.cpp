@@ -7,7 +7,6 @@
 #include <cstddef>
 #include <cstdint>
 #include <cstdio>
-#include <optional>
 #include <string>
 #include <vector>
 
@@ -36,11 +35,9 @@ void print_slot(std::size_t number, std::uint64_t active, std::uint64_t price)
 
 int charge(const std::string &book, const std::string &sheet, const std::vector<std::uint16_t> &prices)
 {
-    // The data of an empty vector may be a null pointer.
-    const std::uint16_t none = 0;
     const jadeshuttle_charge_answer answer =
         jadeshuttle_charge(bytes(book), book.size(), bytes(sheet), sheet.size(),
-                           prices.empty() ? &none : prices.data(), prices.size());
+                           data_of(prices), prices.size());
     if (answer.number != JADESHUTTLE_SUCCESS) {
         print_refusal(answer.number, answer.line);
         return 1;
@@ -52,28 +49,15 @@ int charge(const std::string &book, const std::string &sheet, const std::vector<
     return 0;
 }
 
-// The prices among the arguments, or none where one is no price.
-std::optional<std::vector<std::uint16_t>> prices_in(int argc, char **argv)
-{
-    std::vector<std::uint16_t> prices;
-    for (int i = 3; i < argc; i++) {
-        const auto price = number_in(argv[i], UINT16_MAX);
-        if (!price)
-            return std::nullopt;
-        prices.push_back(static_cast<std::uint16_t>(*price));
-    }
-    return prices;
-}
-
 }  // namespace
 
 int main(int argc, char **argv)
 {
-    const auto prices = prices_in(argc, argv);
+    const auto prices = numbers_from<std::uint16_t>(3, argc, argv);
     if (argc < 3 || !prices) {
         std::fputs("usage: charge BOOK SHEET [PRICE..]\n", stderr);
         return 2;
     }
-    return with_book_and_sheet("charge", argv[1], argv[2],
-                               [&](const std::string &book, const std::string &sheet) { return charge(book, sheet, *prices); });
+    return with_files("charge", {argv[1], argv[2]},
+                      [&](const std::vector<std::string> &texts) { return charge(texts[0], texts[1], *prices); });
 }

@@ -9,6 +9,7 @@
 #include <cstdint>
 #include <cstdio>
 #include <string>
+#include <vector>
 
 #include "jadeshuttle.h"
 #include "refusals.h"
@@ -108,6 +109,6 @@ int main(int argc, char **argv)
         std::fputs("usage: check BOOK SHEET [PERCENT]\n", stderr);
         return 2;
     }
-    return with_book_and_sheet("check", argv[1], argv[2],
-                               [&](const std::string &book, const std::string &sheet) { return check(book, sheet, *percent); });
+    return with_files("check", {argv[1], argv[2]},
+                      [&](const std::vector<std::string> &texts) { return check(texts[0], texts[1], *percent); });
 }

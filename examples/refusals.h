@@ -24,6 +24,8 @@ static inline const char *refusal_word(uint64_t number)
     case JADESHUTTLE_BUDGET_EXCEEDED: return "spent";
     case JADESHUTTLE_FOREIGN_SHEET: return "foreign";
     case JADESHUTTLE_WRONG_PRICE_COUNT: return "prices";
+    case JADESHUTTLE_WRONG_NAMES: return "names";
+    case JADESHUTTLE_NAMED_LOAD_STANDS: return "blocked";
     default: return "unknown";
     }
 }

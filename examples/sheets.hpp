@@ -5,8 +5,10 @@
 #include <cstddef>
 #include <cstdint>
 #include <cstdio>
+#include <limits>
 #include <optional>
 #include <string>
+#include <vector>
 
 // One slot line of a sheet, in tenths of a kW, kvar and kVA.
 struct Slot {
@@ -77,17 +79,40 @@ inline int own_error(const char *program, const char *name, const char *what)
     return 2;
 }
 
-// Reads the two files and hands them to `use`, whose exit status it is.
-template <typename Use>
-int with_book_and_sheet(const char *program, const char *book_name, const char *sheet_name, Use use)
+// The arguments from `first` on, each a number that a T holds; none where one of them is not.
+template <typename T>
+std::optional<std::vector<T>> numbers_from(int first, int argc, char **argv)
 {
-    const auto book = contents(book_name);
-    if (!book)
-        return own_error(program, book_name, "cannot be read");
-    const auto sheet = contents(sheet_name);
-    if (!sheet)
-        return own_error(program, sheet_name, "cannot be read");
-    const int status = use(*book, *sheet);
+    std::vector<T> numbers;
+    for (int i = first; i < argc; i++) {
+        const auto number = number_in(argv[i], std::numeric_limits<T>::max());
+        if (!number)
+            return std::nullopt;
+        numbers.push_back(static_cast<T>(*number));
+    }
+    return numbers;
+}
+
+// The data of an empty vector may be a null pointer, which no call takes.
+template <typename T>
+const T *data_of(const std::vector<T> &numbers)
+{
+    static const T none = 0;
+    return numbers.empty() ? &none : numbers.data();
+}
+
+// Reads the files and hands their texts to `use`, whose exit status it is.
+template <typename Use>
+int with_files(const char *program, const std::vector<const char *> &names, Use use)
+{
+    std::vector<std::string> texts;
+    for (const char *name : names) {
+        const auto text = contents(name);
+        if (!text)
+            return own_error(program, name, "cannot be read");
+        texts.push_back(*text);
+    }
+    const int status = use(texts);
     if (std::fflush(stdout) != 0)
         return own_error(program, "standard output", "cannot be written");
     return status;

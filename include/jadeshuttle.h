@@ -7,49 +7,51 @@
  *   jadeshuttle_quick       the quick planner: level 1 only, smallest loads first
  *   jadeshuttle_read_sheet  the sheet reader: whether a sheet belongs to a book
  *   jadeshuttle_charge      the charge: what a sheet's energy costs
+ *   jadeshuttle_order       the order of starting: from the running sheet to the next
  *
  * docs/HANDBOOK.md describes the book and the sheet field by field, what the
- * limits mean for a relay, how large a work area a book needs, and what a price is.
+ * limits mean for a relay, how large a work area a book needs, what a price is, and
+ * which loads to name for an order.
  *
  * LINKING  Name target/staticlib/libjadeshuttle.a after your own files. It calls
  * memcpy and memset of the C library, and nothing else.
  *
  * MEMORY THAT YOU LEND
  *   - A call uses the memory only until it returns. It keeps no pointer.
- *   - Lengths are in elements: bytes for a book and a sheet, 64-bit words for the
- *     work area, 16-bit numbers for prices.
+ *   - Lengths are in elements: bytes for a book, a sheet, names and an order, 64-bit
+ *     words for the work area, 16-bit numbers for prices.
  *   - No pointer may be NULL, not even where its length is 0. `work` is aligned
  *     as a uint64_t is, `prices` as a uint16_t.
  *   - All the bytes that a length names are yours to lend. No length names more
  *     than PTRDIFF_MAX bytes.
- *   - What is written may overlap nothing else: `work` and `sheet` lie apart from
- *     each other and from `book`. The sheet reader and the charge write nothing,
- *     so their arguments may overlap.
- *   - `work` and the planners' `sheet` need no first values. No answer depends on
- *     them.
+ *   - What is written may overlap nothing else: `work` and the planners' `sheet`
+ *     lie apart from each other and from `book`, and `order` from all that the call
+ *     reads. What is only read may overlap: the sheet reader and the charge write
+ *     nothing.
+ *   - `work`, the planners' `sheet` and `order` need no first values. No answer
+ *     depends on them.
  *
  * The calls cannot test these points. Where one is broken, nothing is promised.
- * Of the values in book, sheet and prices, nothing is asked: every input has an
- * answer.
+ * Of the values in book, sheet, prices and names, nothing is asked: every input
+ * has an answer.
  *
  * WHAT A CALL LEAVES BEHIND
  *   - With a sheet (number 0): the first `bytes` bytes of the sheet buffer are the
  *     sheet. It is no C string: no 0 byte follows. The rest of the buffer keeps
- *     its values.
- *   - With a refusal: no byte of the sheet buffer changes.
+ *     its values. The same holds for an order and its buffer.
+ *   - With a refusal: no byte of the buffer changes.
  *   - The work area: with a sheet or refusal 12, the first 4 x cells words hold
  *     anything, and the words past them keep their values. With refusals 1 to 11
  *     no word changes.
- *   - The book never changes, nor does what the sheet reader and the charge are
- *     lent.
+ *   - The book never changes, nor does anything else that a call only reads.
  *
  * THREADS  There is no state. Calls may run at the same time in several threads,
- * as long as each has its own memory to write, `work` and the planners' `sheet`.
- * What is only read may be shared.
+ * as long as each has its own memory to write: `work`, the planners' `sheet`, and
+ * `order`. What is only read may be shared.
  *
  * STACK, HEAP  Nothing is allocated. Stack used by a call, as measured on x86-64
- * Linux: planner up to 79 KiB, quick planner up to 55 KiB, sheet reader and charge
- * up to 34 KiB. Leave 128 KiB of stack for a call.
+ * Linux: planner up to 79 KiB, quick planner up to 55 KiB, sheet reader, charge and
+ * order up to 34 KiB. Leave 128 KiB of stack for a call.
  *
  * ERRORS  A call always returns. It prints nothing, and sets no errno.
  */
@@ -66,12 +68,14 @@ extern "C" {
 /* Bounds. Buffers of these sizes are large enough for every book. */
 #define JADESHUTTLE_BOOK_MAX 2745     /* bytes of the longest book: T = 4, N = 24, three levels each */
 #define JADESHUTTLE_SHEET_MAX 159     /* bytes of the longest sheet: 19 + 2N + 23T for N = 24, T = 4 */
+#define JADESHUTTLE_ORDER_MAX 24      /* bytes of the longest order: N = 24 */
 #define JADESHUTTLE_CELLS_MAX 1048576 /* cells; a book with more is refused as oversize */
 #define JADESHUTTLE_WORK_MAX 4194304  /* words of the work area for that many cells: 4 a cell, 32 MiB */
 
 /*
  * What `number` says. Lines are read in order, and on each line 1 to 7 are tried
- * in this order, as far as they concern it; then 8 to 14. The first that applies
+ * in this order, as far as they concern it; then 8 to 16, but an order's 11 after
+ * its 16. The first that applies
  * is given. `line` is the number of the line in the book, from 1, for 1 to 8; it
  * is 0 for success and from 9 on. Each comment begins with the handbook's word.
  */
@@ -89,14 +93,17 @@ enum jadeshuttle_number {
     /* The planner only. */
     JADESHUTTLE_TOO_MANY_CELLS = 9,  /* oversize: cells over 1,048,576 */
     JADESHUTTLE_WORK_TOO_SMALL = 10, /* cramped: work area under 4 x cells words */
-    /* The planner and the quick planner. */
-    JADESHUTTLE_BUFFER_TOO_SMALL = 11, /* no sheet: buffer shorter than the sheet */
+    /* The planner, the quick planner and the order. */
+    JADESHUTTLE_BUFFER_TOO_SMALL = 11, /* no sheet: buffer shorter than the sheet, or than the order */
     /* The planner only. */
     JADESHUTTLE_BUDGET_EXCEEDED = 12, /* spent: trials over the budget */
-    /* The sheet reader and the charge. */
+    /* The sheet reader, the charge and the order. */
     JADESHUTTLE_FOREIGN_SHEET = 13, /* foreign: no choice and no trials number give this sheet for this book */
     /* The charge only. */
-    JADESHUTTLE_WRONG_PRICE_COUNT = 14 /* prices: their number is not T */
+    JADESHUTTLE_WRONG_PRICE_COUNT = 14, /* prices: their number is not T */
+    /* The order only. */
+    JADESHUTTLE_WRONG_NAMES = 15,       /* names: not N of them, or one is neither 0 nor a higher load's number */
+    JADESHUTTLE_NAMED_LOAD_STANDS = 16  /* blocked: a load that starts names one that stands in the new sheet */
 };
 
 /* What the planners answer. With a refusal, bytes, worth and trials are 0. */
@@ -127,6 +134,17 @@ typedef struct jadeshuttle_charge_answer {
     uint64_t trials; /* always 0 */
     uint64_t charge; /* in hundredths of a unit of money; at most 10,307,606,940 */
 } jadeshuttle_charge_answer;
+
+/* What the order of starting answers. With a refusal, all after line is 0. */
+typedef struct jadeshuttle_order_answer {
+    uint64_t number;
+    uint64_t line;
+    uint64_t bytes;  /* bytes of the order that were written, one for each load that starts */
+    uint64_t worth;  /* always 0: nothing is planned */
+    uint64_t trials; /* always 0 */
+    uint64_t starts; /* loads that stand in the running sheet and run in the new one */
+    uint64_t stops;  /* loads that run in the running sheet and stand in the new one */
+} jadeshuttle_order_answer;
 
 /*
  * The planner. Writes the sheet of the plan: the admitted choice of greatest
@@ -178,6 +196,30 @@ jadeshuttle_reading jadeshuttle_read_sheet(const uint8_t *book, size_t book_len,
 jadeshuttle_charge_answer jadeshuttle_charge(const uint8_t *book, size_t book_len,
                                              const uint8_t *sheet, size_t sheet_len,
                                              const uint16_t *prices, size_t prices_len);
+
+/*
+ * The order of starting, from the running sheet to the new one, `planned`; both have
+ * to belong to the book, as for the sheet reader. `names` has a byte for each load:
+ * the number of a load that has to run ahead of it, a higher one than its own, or 0
+ * for none. Writes the numbers of the loads that start, 1 to 24, a byte each, in
+ * order: each time, of those left that name none, or whose named load runs in the
+ * running sheet or has been started, the lowest number. A load that changes its
+ * level neither starts nor stops.
+ *
+ * Of every order it gives:
+ *   - every load that starts stands in it once, and no other;
+ *   - a load comes after the load that it names, where that starts too;
+ *   - where a lower load comes after a higher one, it names a load that stands in
+ *     the running sheet and is not among those before the higher one.
+ *
+ * Gives 1 to 8 for the book, 13 for the running sheet and then for the new one, 15,
+ * 16, and last 11. An order of nothing fits a buffer of 0 bytes.
+ */
+jadeshuttle_order_answer jadeshuttle_order(const uint8_t *book, size_t book_len,
+                                           const uint8_t *running, size_t running_len,
+                                           const uint8_t *planned, size_t planned_len,
+                                           const uint8_t *names, size_t names_len,
+                                           uint8_t *order, size_t order_len);
 
 #ifdef __cplusplus
 }

@@ -19,10 +19,11 @@ const NUMBERS: [Number; 5] = [
 ];
 
 /// The structs that a call can give: their names in Rattle, in Rust and in C.
-const STRUCTS: [Struct; 3] = [
+const STRUCTS: [Struct; 4] = [
     structure("Answer", "Answer", "jadeshuttle_answer"),
     structure("SheetAnswer", "Reading", "jadeshuttle_reading"),
     structure("ChargeAnswer", "ChargeAnswer", "jadeshuttle_charge_answer"),
+    structure("OrderAnswer", "OrderAnswer", "jadeshuttle_order_answer"),
 ];
 
 #[derive(Clone, Copy, Debug, PartialEq, Eq)]
@@ -130,30 +131,37 @@ impl Line<'_> {
 
 /// The calls, in the source's order.
 pub fn calls(source: &Source) -> Parsed<Vec<Call>> {
-    let lines = source.lines().filter(|line| !line.is_comment());
-    let signatures = lines.filter(|line| line.text.contains("extern \"C\""));
-    let calls: Vec<Call> = signatures.map(|line| call(&line)).collect::<Parsed<_>>()?;
+    let lines: Vec<Line> = source.lines().filter(|line| !line.is_comment()).collect();
+    let starts = (0..lines.len()).filter(|&i| lines[i].text.contains("extern \"C\""));
+    let calls: Vec<Call> = starts.map(|i| call(&lines[i..])).collect::<Parsed<_>>()?;
     if calls.is_empty() {
         return Err(format!("{}: no call", source.path));
     }
     Ok(calls)
 }
 
-/// A signature that stands in one line.
-fn call(line: &Line) -> Parsed<Call> {
+/// The signature that these lines begin with: one line, or the arguments on lines of their own.
+fn call(lines: &[Line]) -> Parsed<Call> {
+    let line = lines[0];
+    let signature = || {
+        let end = lines.iter().position(|line| line.text.contains(") -> "))?;
+        let text: Vec<&str> = lines[..=end].iter().map(|line| line.text).collect();
+        Some(text.concat())
+    };
+    let signature = signature().ok_or_else(|| line.fault("no end of the signature"))?;
     let parts = || {
-        let text = line.text.strip_prefix("pub extern \"C\" fn ")?;
+        let text = signature.strip_prefix("pub extern \"C\" fn ")?;
         let (name, text) = text.split_once('(')?;
         let (arguments, answer) = text.split_once(") -> ")?;
         (name.starts_with(PREFIX) && is_name(name)).then_some((name, arguments, answer))
     };
-    let (name, arguments, answer) = parts().ok_or_else(|| line.fault("no signature in one line"))?;
+    let (name, arguments, answer) = parts().ok_or_else(|| line.fault("no signature"))?;
     let unknown = |text: &str| line.fault(&format!("no type for '{text}' in C"));
     let argument = |text: &str| {
         let (name, given) = text.split_once(": ").filter(|(name, _)| is_name(name))?;
         Some((name.to_string(), type_of(given)?))
     };
-    let arguments = arguments.split(", ").filter(|text| !text.is_empty());
+    let arguments = arguments.split(',').map(str::trim).filter(|text| !text.is_empty());
     Ok(Call {
         name: name.to_string(),
         arguments: arguments
@@ -241,7 +249,7 @@ pub fn refusals(model: &Source) -> Parsed<Vec<(String, u64)>> {
 }
 
 /// The sizes that are large enough for every book, computed from the constants of the source's `Book`.
-pub fn sizes(model: &Source) -> Parsed<[(&'static str, u64); 4]> {
+pub fn sizes(model: &Source) -> Parsed<[(&'static str, u64); 5]> {
     let bounds = bounds(model)?;
     let bound = |name: &str| {
         let found = bounds.get(name).copied();
@@ -253,6 +261,7 @@ pub fn sizes(model: &Source) -> Parsed<[(&'static str, u64); 4]> {
     Ok([
         ("BOOK_MAX", header + bound("LOADS")? * load),
         ("SHEET_MAX", bound("SHEET")?),
+        ("ORDER_MAX", bound("LOADS")?),
         ("CELLS_MAX", bound("CELLS")?),
         ("WORK_MAX", 4 * bound("CELLS")?),
     ])
@@ -300,6 +309,9 @@ mod tests {
     #[test]
     fn types_of_arguments_and_answers() {
         let line = "pub extern \"C\" fn jadeshuttle_tally(a: &[u16], b: &mut [u32], c: usize) -> u8";
+        let lines =
+            "pub extern \"C\" fn jadeshuttle_tally(\n    a: &[u16],\n    b: &mut [u32],\n    c: usize,\n) -> u8\n{";
+        assert_eq!(calls(&source(lines)), calls(&source(line)));
         let call = calls(&source(line)).expect("a signature").remove(0);
         let types: Vec<Type> = call.arguments.iter().map(|(_, given)| *given).collect();
         let slice = |rust, c, written| Type::Slice {

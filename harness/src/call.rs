@@ -75,9 +75,10 @@ pub enum Function {
     Quick,
     ReadSheet,
     Charge,
+    Order,
 }
 
-/// A function and what it is given; what it does not take is empty. `sheet` is a sheet that is read, or a buffer.
+/// A function and what it is given; what it does not take is empty. `sheet` is a sheet that is read, or the buffer.
 #[derive(Clone, Copy)]
 pub struct Input<'a> {
     pub function: Function,
@@ -85,6 +86,9 @@ pub struct Input<'a> {
     pub words: &'a [u64],
     pub sheet: &'a [u8],
     pub prices: &'a [u16],
+    pub running: &'a [u8],
+    pub planned: &'a [u8],
+    pub names: &'a [u8],
 }
 
 impl<'a> Input<'a> {
@@ -103,6 +107,9 @@ impl<'a> Input<'a> {
             words: &[],
             sheet,
             prices: &[],
+            running: &[],
+            planned: &[],
+            names: &[],
         }
     }
 
@@ -120,6 +127,16 @@ impl<'a> Input<'a> {
             ..Input::quick(book, sheet)
         }
     }
+
+    pub fn order(book: &'a [u8], running: &'a [u8], planned: &'a [u8], names: &'a [u8], buffer: &'a [u8]) -> Input<'a> {
+        Input {
+            function: Function::Order,
+            running,
+            planned,
+            names,
+            ..Input::quick(book, buffer)
+        }
+    }
 }
 
 /// A call that was made, and all memory that it could reach.
@@ -130,6 +147,9 @@ pub struct Call {
     pub work: Lent<u64>,
     pub sheet: Lent<u8>,
     pub prices: Lent<u16>,
+    pub running: Lent<u8>,
+    pub planned: Lent<u8>,
+    pub names: Lent<u8>,
     pub answer: Numbers,
 }
 
@@ -140,11 +160,18 @@ impl Call {
         let mut work = Lent::new(random, input.words, Random::word);
         let mut sheet = Lent::new(random, input.sheet, plausible);
         let prices = Lent::new(random, input.prices, |random| random.word() as u16);
+        let running = Lent::new(random, input.running, plausible);
+        let planned = Lent::new(random, input.planned, plausible);
+        let names = Lent::new(random, input.names, |random| random.below(25) as u8);
         let answer = match input.function {
             Function::Plan => crate::plan(book.part(), work.part_mut(), sheet.part_mut()).into(),
             Function::Quick => crate::quick(book.part(), sheet.part_mut()).into(),
             Function::ReadSheet => crate::read_sheet(book.part(), sheet.part()).into(),
             Function::Charge => crate::charge(book.part(), sheet.part(), prices.part()).into(),
+            Function::Order => {
+                let read = [&book, &running, &planned, &names].map(Lent::part);
+                crate::order(read[0], read[1], read[2], read[3], sheet.part_mut()).into()
+            }
         };
         Call {
             function: input.function,
@@ -152,13 +179,17 @@ impl Call {
             work,
             sheet,
             prices,
+            running,
+            planned,
+            names,
             answer,
         }
     }
 
     /// Whether everything that is lent has guards.
     pub fn has_guards(&self) -> bool {
-        self.book.has_guards() && self.work.has_guards() && self.sheet.has_guards() && self.prices.has_guards()
+        let bytes = [&self.book, &self.sheet, &self.running, &self.planned, &self.names];
+        bytes.into_iter().all(Lent::has_guards) && self.work.has_guards() && self.prices.has_guards()
     }
 
     /// Everything in which the call left something else than it has to.
@@ -178,6 +209,9 @@ impl Call {
             ("sheet buffer", self.sheet.change(written)),
             ("work area", self.work.change(expected.free_words)),
             ("prices", self.prices.change(0)),
+            ("running sheet", self.running.change(0)),
+            ("new sheet", self.planned.change(0)),
+            ("names", self.names.change(0)),
         ];
         for (name, change) in changes {
             complaints.extend(change.map(|at| format!("{name}: changed at {at}")));
@@ -189,12 +223,17 @@ impl Call {
     pub fn input(&self) -> String {
         let start = format!("{:?}, book \"{}\"", self.function, self.book.part().escape_ascii());
         let (words, bytes) = (self.work.part().len(), self.sheet.part().len());
-        let sheet = self.sheet.part().escape_ascii();
+        let [sheet, running, planned] =
+            [&self.sheet, &self.running, &self.planned].map(|lent| lent.part().escape_ascii());
         match self.function {
             Function::Plan => format!("{start}, {words} words, buffer of {bytes}"),
             Function::Quick => format!("{start}, buffer of {bytes}"),
             Function::ReadSheet => format!("{start}, sheet \"{sheet}\""),
             Function::Charge => format!("{start}, sheet \"{sheet}\", prices {:?}", self.prices.part()),
+            Function::Order => format!(
+                "{start}, running \"{running}\", planned \"{planned}\", names {:?}, buffer of {bytes}",
+                self.names.part()
+            ),
         }
     }
 }

@@ -15,11 +15,11 @@ pub struct Kind {
 }
 
 pub const KINDS: &[Kind] = &[
-    kind("small books", 980, small_books),
+    kind("small books", 830, small_books),
     kind("larger grids", 100, larger_grids),
     kind("many loads", 150, many_loads),
     kind("large tables", 20, large_tables),
-    kind("budgets", 750, budgets),
+    kind("budgets", 700, budgets),
     kind("work areas", 550, work_areas),
     kind("sheet buffers", 500, buffers),
     kind("several shortages", 550, shortages),
@@ -29,7 +29,7 @@ pub const KINDS: &[Kind] = &[
     kind("one fault", 800, one_fault),
     kind("two faults", 600, two_faults),
     kind("truncated books", 900, truncated_books),
-    kind("a byte changed", 1_600, changed_books),
+    kind("a byte changed", 1_400, changed_books),
     kind("bytes inserted, deleted", 300, shifted_books),
     kind("lines exchanged", 200, reordered_books),
     kind("random bytes", 100, random_bytes),
@@ -41,6 +41,9 @@ pub const KINDS: &[Kind] = &[
     kind("sheets, level above o", 48, levels_above),
     kind("charges", 200, charges),
     kind("numbers of prices", 100, price_counts),
+    kind("orders", 200, orders),
+    kind("orders, buffers", 100, order_buffers),
+    kind("orders, names", 100, order_names),
 ];
 
 const fn kind(name: &'static str, share: u64, run: fn(&mut Session)) -> Kind {
@@ -117,6 +120,20 @@ fn prices(random: &mut Random, count: usize) -> Vec<u16> {
     (0..count).map(|_| price(random)).collect()
 }
 
+/// A name for each load: none, or one of a higher load, which runs in this choice where it is to be `reachable`.
+fn names(random: &mut Random, planned: &[usize], reachable: bool) -> Vec<u8> {
+    let loads = planned.len();
+    let name = |k: usize| {
+        let higher: Vec<usize> = (k + 1..=loads).filter(|j| !reachable || planned[j - 1] > 0).collect();
+        match higher.len() {
+            0 => 0,
+            _ if random.one_in(4) => 0,
+            _ => random.pick(&higher) as u8,
+        }
+    };
+    (1..=loads).map(name).collect()
+}
+
 /// All calls on a valid book, with more lent than is needed.
 fn all_calls(session: &mut Session, case: &Case) {
     let Ok(book) = &case.book else { return };
@@ -130,10 +147,13 @@ fn all_calls(session: &mut Session, case: &Case) {
     session.read_sheet(case, &case.quick(buffer).sheet);
     let prices = prices(&mut session.random, book.limits.len());
     session.charge(case, &planned, &prices);
+    let running = random_sheet(&mut session.random, book);
+    let names = names(&mut session.random, &plan.choice, true);
+    session.order(case, [&running, &planned], &names, book.loads.len());
 }
 
 /// The calls on bytes that may be no book.
-const CALLS: [fn(&mut Session, &Case); 4] = [plan_any, quick_any, read_any, charge_any];
+const CALLS: [fn(&mut Session, &Case); 5] = [plan_any, quick_any, read_any, charge_any, order_any];
 
 fn one_call(session: &mut Session, case: &Case) {
     let call = session.random.pick(&CALLS);
@@ -167,6 +187,17 @@ fn charge_any(session: &mut Session, case: &Case) {
     let count = session.random.below(6);
     let prices = prices(&mut session.random, count);
     session.charge(case, &sheet, &prices);
+}
+
+fn order_any(session: &mut Session, case: &Case) {
+    let [running, planned] = [(); 2].map(|_| any_sheet(&mut session.random, case));
+    let loads = case
+        .book
+        .as_ref()
+        .map_or(session.random.below(25), |book| book.loads.len());
+    let names = names(&mut session.random, &vec![1; loads], false);
+    let buffer = session.random.below(25);
+    session.order(case, [&running, &planned], &names, buffer);
 }
 
 /// A sheet of a book that was read, or else bytes.
@@ -436,5 +467,61 @@ fn price_counts(session: &mut Session) {
         let prices = prices(&mut session.random, count);
         session.charge(&case, &sheet, &prices);
         session.charge(&case, &foreign, &prices);
+    }
+}
+
+/// A book of many loads, two sheets of it, and what stands on the second.
+fn two_sheets(session: &mut Session) -> (Case, [Vec<u8>; 2], Vec<usize>) {
+    let case = drawn(session, MANY);
+    let book = case.book.as_ref().expect("a valid book");
+    let running = random_sheet(&mut session.random, book);
+    let choice = random_choice(&mut session.random, book);
+    let planned = sheet::write(book, &choice, 0);
+    (case, [running, planned], choice)
+}
+
+/// Orders from any choice to any other: with names that can be met, and with any (16).
+fn orders(session: &mut Session) {
+    let (case, [running, planned], choice) = two_sheets(session);
+    for reachable in [true, true, true, false] {
+        let names = names(&mut session.random, &choice, reachable);
+        session.order(&case, [&running, &planned], &names, choice.len());
+    }
+    let names = names(&mut session.random, &choice, true);
+    session.order(&case, [&planned, &planned], &names, 0);
+}
+
+/// Every length of the buffer up to one more than the order needs, and with a name that is not met: 16 comes before 11.
+fn order_buffers(session: &mut Session) {
+    let (case, [running, planned], choice) = two_sheets(session);
+    let fitting = names(&mut session.random, &choice, true);
+    let any = names(&mut session.random, &choice, false);
+    let need = case.order(&running, &planned, &fitting, choice.len()).sheet.len();
+    for buffer in 0..=need + 1 {
+        session.order(&case, [&running, &planned], &fitting, buffer);
+        session.order(&case, [&running, &planned], &any, buffer);
+    }
+}
+
+/// Lists of any length, and each name in turn a wrong one; also with names that are not met, and with a foreign sheet: 13 comes
+/// before 15, and 15 before 16.
+fn order_names(session: &mut Session) {
+    let (case, [running, planned], choice) = two_sheets(session);
+    let foreign = &planned[1..];
+    let reachable = session.random.one_in(2);
+    let good = names(&mut session.random, &choice, reachable);
+    for length in 0..=choice.len() + 1 {
+        let list: Vec<u8> = good.iter().copied().chain([0]).take(length).collect();
+        session.order(&case, [&running, &planned], &list, choice.len());
+    }
+    for at in 0..choice.len() {
+        let (own, above) = (at as u8 + 1, choice.len() as u8 + 1);
+        let lower = session.random.below(at + 1) as u8;
+        let mut list = good.clone();
+        list[at] = session.random.pick(&[own, lower, above, 25, 255]);
+        let sheets = session
+            .random
+            .pick(&[[&running[..], &planned], [&running, foreign], [foreign, &planned]]);
+        session.order(&case, sheets, &list, 0);
     }
 }

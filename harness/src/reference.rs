@@ -3,6 +3,7 @@
 pub mod book;
 pub mod charge;
 pub mod grid;
+pub mod order;
 pub mod plan;
 pub mod quick;
 pub mod sheet;
@@ -25,7 +26,7 @@ pub struct Refusal {
     pub line: u64,
 }
 
-/// What a call has to leave: its answer, the bytes at the start of the sheet buffer (none on a refusal), and the number
+/// What a call has to leave: its answer, the bytes at the start of the buffer (none on a refusal), and the number
 /// of words at the start of the work area that may hold anything afterwards.
 #[derive(Clone, Debug, Default)]
 pub struct Outcome {
@@ -103,6 +104,7 @@ impl Case {
             Function::Quick => self.quick(input.sheet.len()),
             Function::ReadSheet => self.read_sheet(input.sheet),
             Function::Charge => self.charge(input.sheet, input.prices),
+            Function::Order => self.order(input.running, input.planned, input.names, input.sheet.len()),
         }
     }
 
@@ -157,6 +159,35 @@ impl Case {
         let (book, choice, _) = self.read_with(sheet)?;
         refuse_if(prices.len() != book.limits.len(), 14)?;
         Ok(answered(Answer::default(), vec![charge::of(book, &choice, prices)]))
+    }
+
+    pub fn order(&self, running: &[u8], planned: &[u8], names: &[u8], buffer: usize) -> Outcome {
+        self.order_or_refusal(running, planned, names, buffer)
+            .unwrap_or_else(refused::<2>)
+    }
+
+    fn order_or_refusal(
+        &self,
+        running: &[u8],
+        planned: &[u8],
+        names: &[u8],
+        buffer: usize,
+    ) -> Result<Outcome, Refusal> {
+        let (book, old, _) = self.read_with(running)?;
+        let (_, new, _) = self.read_with(planned)?;
+        refuse_if(!order::names_are_right(names, book.loads.len()), 15)?;
+        refuse_if(order::some_wait_for_ever(&old, &new, names), 16)?;
+        let order = order::of(&old, &new, names);
+        refuse_if(buffer < order.len(), 11)?;
+        let first = Answer {
+            bytes: order.len() as u64,
+            ..Answer::default()
+        };
+        let counts = [(&old, &new), (&new, &old)].map(|(from, to)| order::starting(from, to).count() as u64);
+        Ok(Outcome {
+            sheet: order,
+            ..answered(first, counts.to_vec())
+        })
     }
 
     /// The book, after refusals 1 to 8.

@@ -3,7 +3,7 @@
 use crate::call::{Call, Function, Input};
 use crate::kinds;
 use crate::random::Random;
-use crate::reference::{Case, Outcome, EXAMPLE};
+use crate::reference::{sheet, Case, Outcome, EXAMPLE};
 use crate::session::Session;
 
 /// The words that the bench book needs: L = 1 and R = 10, so cells are 11 × 24.
@@ -33,7 +33,7 @@ const FIELDS: &[Alteration] = &[
     ("number of numbers", |call| call.answer.further.push(0)),
 ];
 
-/// For calls whose answer has more: the sheet reader's code, the charge.
+/// For calls whose answer has more: the sheet reader's code, the charge, the starts.
 const FURTHER: &[Alteration] = &[("further number", |call| call.answer.further[0] ^= 1)];
 
 /// The memory that was lent and around it.
@@ -51,10 +51,24 @@ const MEMORY: &[Alteration] = &[
     ("byte past the book", |call| call.book.flip_from_end(0)),
     ("price before the prices", |call| call.prices.flip(-1)),
     ("price past the prices", |call| call.prices.flip_from_end(0)),
+    ("byte before the running sheet", |call| call.running.flip(-1)),
+    ("byte past the running sheet", |call| call.running.flip_from_end(0)),
+    ("byte before the new sheet", |call| call.planned.flip(-1)),
+    ("byte past the new sheet", |call| call.planned.flip_from_end(0)),
+    ("byte before the names", |call| call.names.flip(-1)),
+    ("byte past the names", |call| call.names.flip_from_end(0)),
 ];
 
 /// For the charge alone.
 const PRICES: &[Alteration] = &[("first price", |call| call.prices.flip(0))];
+
+/// For the order alone.
+const ORDERED: &[Alteration] = &[
+    ("stops", |call| call.answer.further[1] ^= 1),
+    ("last byte of the running sheet", |call| call.running.flip_from_end(-1)),
+    ("last byte of the new sheet", |call| call.planned.flip_from_end(-1)),
+    ("last name", |call| call.names.flip_from_end(-1)),
+];
 
 /// For the planner alone: words of the work area that no call may change.
 const KEPT_WORDS: &[Alteration] = &[
@@ -113,6 +127,7 @@ fn check_base(checks: &mut Checks, base: &Base) {
         Function::Quick => &[],
         Function::ReadSheet => &[FURTHER],
         Function::Charge => &[FURTHER, PRICES],
+        Function::Order => &[FURTHER, ORDERED],
     };
     for alteration in FIELDS.iter().chain(MEMORY).chain(more.iter().copied().flatten()) {
         checks.reported(base, alteration, true);
@@ -146,6 +161,8 @@ fn bases() -> Vec<Base> {
     let quick = |name, case: &Case| base(name, case, Input::quick(&case.text, &free));
     let read = |name, sheet| base(name, &good, Input::read_sheet(&good.text, sheet));
     let charge = |name, sheet, prices| base(name, &good, Input::charge(&good.text, sheet, prices));
+    let standing = sheet::write(good.book.as_ref().expect("a valid book"), &[0, 0, 1], 0);
+    let order = |name, planned, names| base(name, &good, Input::order(&good.text, &standing, planned, names, &free));
     vec![
         plan("plan, a sheet", &good),
         plan("plan, refusal 1", &unterminated),
@@ -157,6 +174,10 @@ fn bases() -> Vec<Base> {
         charge("charge, a charge", &sheet, &[25]),
         charge("charge, refusal 13", &foreign_sheet, &[25]),
         charge("charge, refusal 14", &sheet, &[25, 30]),
+        order("order, an order", &sheet, &[2, 0, 0]),
+        order("order, refusal 13", &foreign_sheet, &[2, 0, 0]),
+        order("order, refusal 15", &sheet, &[2, 2, 0]),
+        order("order, refusal 16", &sheet, &[2, 3, 0]),
     ]
 }
 

@@ -9,11 +9,12 @@ use crate::NUMBERS;
 const MOST_DIFFERENCES: usize = 20;
 
 /// The functions with their names, in the order of `enum Function`.
-const FUNCTIONS: [(Function, &str); 4] = [
+const FUNCTIONS: [(Function, &str); 5] = [
     (Function::Plan, "plan"),
     (Function::Quick, "quick"),
     (Function::ReadSheet, "read_sheet"),
     (Function::Charge, "charge"),
+    (Function::Order, "order"),
 ];
 
 pub struct Session {
@@ -69,6 +70,12 @@ impl Session {
         self.call(case, Input::charge(&case.text, sheet, prices));
     }
 
+    /// The order of starting, with so many bytes lent for it.
+    pub fn order(&mut self, case: &Case, [running, planned]: [&[u8]; 2], names: &[u8], buffer: usize) {
+        let buffer = self.bytes(buffer);
+        self.call(case, Input::order(&case.text, running, planned, names, &buffer));
+    }
+
     /// A call on the case's book.
     fn call(&mut self, case: &Case, input: Input) -> Call {
         let expected = case.outcome(input);
@@ -93,7 +100,7 @@ impl Session {
         }
     }
 
-    /// Bytes of any value for a sheet buffer.
+    /// Bytes of any value for a buffer.
     fn bytes(&mut self, count: usize) -> Vec<u8> {
         (0..count).map(|_| self.random.word() as u8).collect()
     }

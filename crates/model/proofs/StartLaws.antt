@@ -3,7 +3,7 @@
 use mathlib.Core.Path.{_≡_, refl, sym, ap, ap₂, _∙_, subst}
 use mathlib.Core.Bool.{Bool, true, false, cond, not, _&&_, _||_, false≢true}
 use mathlib.Core.Logic.{_⊎_, inl, inr}
-use mathlib.Core.List.{List, [], _∷_, _++_, append-nil}
+use mathlib.Core.List.{List, [], _∷_, _++_}
 use Prim.Native.Nat.{ℕ, zero, suc, _+_, _<_, _≤_}
 use native.Mathlib.Nat.{zero-add}
 use native.Mathlib.Omega.{arith}
@@ -11,11 +11,11 @@ use lib.Dec.{T, eqb}
 use lib.ListN.{length, getD, take, drop, length-append, take-append-drop, List·getD-append}
 use lib.Seq.{take-append-le, take-at, getD-at, take-take}
 use borrow.Author.Tests.{eqb-true, eqb-false, eq-eqb, ne-eqb, not-true, not-false}
-use Rattle.model.specs.Lists.{within, uptoFrom, Mem, Every, keepIf, keep, any, isEmpty}
+use Rattle.model.specs.Lists.{within, uptoFrom, Mem, keepIf, keep, any, isEmpty}
 use Rattle.model.specs.Order.{Running, starts, starting, named, badName, wrongNames, blocked, someBlocked, left, ready, startable, startNext, startedAfter, startOrder, StepFinds, times, Waits, Ordered}
 use Rattle.model.proofs.ListLaws.{both-true, either-false, within-is, any-false, every-kept}
 use Rattle.model.proofs.IntegerLaws.{split}
-use Rattle.model.proofs.KeepLaws.{keep-keep, keep-all, any-join, any-mem, mem-any, every-from, keep-lowest, Lowest, lowest-of, keep-some, keep-less, times-join, times-keep, times-upto, times-once}
+use Rattle.model.proofs.KeepLaws.{keep-keep, keep-all, any-join, any-mem, mem-any, every-from, keep-lowest, lowest-of, keep-some, keep-less, times-join, times-keep, times-upto, times-once}
 
 -- ---- a load that is not ready waits for another
 

@@ -5,7 +5,7 @@ use mathlib.Core.Path.{_≡_, refl, sym, ap, ap₂, _∙_, subst}
 use mathlib.Core.Bool.{Bool, true, false, not, _&&_, _||_, false≢true}
 use mathlib.Core.Logic.{_⊎_, inl, inr}
 use mathlib.Core.List.{List, [], _∷_, _++_}
-use native.Mathlib.Nat.{zero-add, le-of-suc-le-suc}
+use native.Mathlib.Nat.{le-of-suc-le-suc}
 use native.Mathlib.Numerals.{add-one}
 use native.Mathlib.Omega.{arith}
 use lib.Dec.{eqb}
@@ -21,8 +21,8 @@ use Rattle.model.proofs.IntegerLaws.{split}
 use Rattle.model.proofs.ListLaws.{both-true}
 use Rattle.model.proofs.StartLaws.{waiting, listed-other, listed-last, or-false, or-true, Next, next-taken, Run, next-found, run-after}
 use Rattle.hex.specs.Written.{written}
-use Rattle.hex.proofs.WrittenLaws.{written-none, write-on, write-byte, written-start, length-written}
-use Rattle.starts.specs.Places.{runningIn, startsAt, served, mayStartAt, NamesInside, Found}
+use Rattle.hex.proofs.WrittenLaws.{written-none, write-on, write-byte, written-start}
+use Rattle.starts.specs.Places.{runningIn, startsAt, served, mayStartAt, Found}
 use Rattle.starts.proofs.PlaceLaws.{runs-at, names-inside}
 use Rattle.order.specs.Started.{Unrefused}
 

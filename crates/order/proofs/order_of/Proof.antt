@@ -1,6 +1,5 @@
 -- `order::order_of` meets its contract: refusals 15, 16 and 11 in turn, and else the order. Assumes nothing.
 use mathlib.Core.Path.{_≡_, sym, _∙_}
-use native.Mathlib.Omega.{arith}
 use lib.ListN.{length}
 use borrow.Author.Needs.{needs}
 use Rattle.model.specs.declared.Refusal.the-variants.{BufferTooSmall, WrongNames, NamedLoadStands}
