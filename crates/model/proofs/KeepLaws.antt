@@ -71,7 +71,7 @@ every-above P i zero h = tt
 every-above P i (suc n) h = (h i (omega arith), every-above P (suc i) n (λ k a. h k (omega arith)))
 
 module _ (p : ℕ → Bool) where
-  pub keep-none : (i n : ℕ) → ((k : ℕ) → i ≤ k → k < i + n → p k ≡ false) → keep p (uptoFrom i n) ≡ []
+  keep-none : (i n : ℕ) → ((k : ℕ) → i ≤ k → k < i + n → p k ≡ false) → keep p (uptoFrom i n) ≡ []
   keep-none i zero h = refl
   keep-none i (suc n) h =
       ap (λ t. keepIf t i (keep p (uptoFrom (suc i) n))) (h i (omega arith) (omega arith))

@@ -19,7 +19,7 @@ use Rattle.model.proofs.KeepLaws.{keep-keep, keep-all, any-join, any-me
 
 -- ---- a load that is not ready waits for another
 
-pub unready : (old : Running) (names started : List ℕ) (k : ℕ) → ready old names started k ≡ false → Waits old names started k
+unready : (old : Running) (names started : List ℕ) (k : ℕ) → ready old names started k ≡ false → Waits old names started k
 unfolding ready
 unready old names started k e =
     let h = either-false (eqb (named names k) 0 || old (named names k)) (any (eqb (named names k)) started) e in
@@ -161,7 +161,7 @@ module _ (n : ℕ) (old new : Running) (names : List ℕ) where
     pub counted : (k : ℕ) → times k xs + times k (left n old new xs) ≡ times k (starting n old new)
     pub remain : length (left n old new xs) + length xs ≡ length (starting n old new)
 
-  pub run-none : Run 0 []
+  run-none : Run 0 []
   unfolding left
   run-none =
       record {

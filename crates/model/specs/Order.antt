@@ -94,11 +94,11 @@ unfoldable pub ready : Running → List ℕ → List ℕ → ℕ → Bool
 ready old names started k = eqb (named names k) 0 || old (named names k) || any (eqb (named names k)) started
 
 module _ (n : ℕ) (old new : Running) (names : List ℕ) where
-  -- those of them that may start now
+  -- those of them that may start now, by ascending number
   abbrev pub startable : List ℕ → List ℕ
   startable started = keep (ready old names started) (left n old new started)
 
-  -- a step: "each time, of those .. the lowest number first"
+  -- a step: "each time, of those .. the lowest number first"; it starts none where there is none
   unfoldable pub startNext : List ℕ → List ℕ
   startNext started = started ++ take 1 (startable started)
 

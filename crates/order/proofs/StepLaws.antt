@@ -91,7 +91,7 @@ module _ (running planned names : List ℕ) where
       may-is k l = ap₂ _&&_ (left-is k l) (ready-is k l)
 
       -- the load that is found is the one that a step takes
-      pub found-next : (k : ℕ) → Found on planned names k → k < length names → Next n old new names started (suc k)
+      found-next : (k : ℕ) → Found on planned names k → k < length names → Next n old new names started (suc k)
       found-next k f l =
           let both = both-true (waiting n old new names started (suc k)) (ready old names started (suc k)) (sym (may-is k l) ∙ f .may l) in
           record { low = omega arith; high = omega arith; waits = both .0; may = both .1; lower = lower }

@@ -61,7 +61,7 @@ not-not true = refl
 not-not false = refl
 
 -- a load that starts
-pub starts-are : (n : ℕ) (on planned : List ℕ) (k : ℕ) → k < n → starts (runningIn n on) (runningIn n planned) (suc k) ≡ startsAt on planned k
+starts-are : (n : ℕ) (on planned : List ℕ) (k : ℕ) → k < n → starts (runningIn n on) (runningIn n planned) (suc k) ≡ startsAt on planned k
 starts-are n on planned k l =
     ap₂ (λ s t. not s && t) (runs-at n on k l) (runs-at n planned k l)
     ∙ ap (λ t. t && not (eqb (getD planned k 0) 0)) (not-not (eqb (getD on k 0) 0))
