@@ -1,7 +1,7 @@
 -- The numbers from i to i + n - 1 that pass a test, `keep p (uptoFrom i n)`: the lowest of them, how many they are, and how often a number is among them.
 -- Assumes nothing.
-use mathlib.Core.Path.{_≡_, refl, sym, ap, ap₂, _∙_, subst}
-use mathlib.Core.Bool.{Bool, true, false, cond, _&&_, _||_, false≢true}
+use mathlib.Core.Path.{_≡_, refl, sym, ap, _∙_}
+use mathlib.Core.Bool.{Bool, true, false, cond, _||_, false≢true}
 use mathlib.Core.Logic.{_⊎_, inl, inr}
 use mathlib.Core.List.{List, [], _∷_, _++_}
 use Prim.Native.Nat.{ℕ, zero, suc, _+_, _<_, _≤_}
@@ -9,33 +9,11 @@ use native.Mathlib.Omega.{arith}
 use lib.Dec.{eqb}
 use lib.ListN.{length, take, length-append}
 use borrow.Author.Tests.{eqb-true, eq-eqb, ne-eqb}
-use Rattle.model.specs.Lists.{uptoFrom, Mem, Every, keepIf, keep, any, isEmpty}
+use Rattle.model.specs.Lists.{uptoFrom, Mem, keepIf, keep, any, isEmpty}
 use Rattle.model.specs.Order.{times}
-use Rattle.model.proofs.ListLaws.{keep-append, keep-same}
+use Rattle.model.proofs.ListLaws.{keep-append, keep-same, keep-none}
+use Rattle.model.proofs.UptoLaws.{every-upto}
 use Rattle.model.proofs.IntegerLaws.{split}
-
--- ---- two tests, one after the other
-
-module _ {A : Type 0} where
-  pub keep-keep : (p q : A → Bool) (xs : List A) → keep p (keep q xs) ≡ keep (λ x. q x && p x) xs
-  keep-keep p q [] = refl
-  keep-keep p q (x ∷ xs) = go (q x) (keep-keep p q xs)
-    where
-      go : (t : Bool) → keep p (keep q xs) ≡ keep (λ y. q y && p y) xs → keep p (keepIf t x (keep q xs)) ≡ keepIf (t && p x) x (keep (λ y. q y && p y) xs)
-      go true e = ap (keepIf (p x) x) e
-      go false e = e
-
-  pub keep-all : (p : A → Bool) (xs : List A) → ((x : A) → p x ≡ true) → keep p xs ≡ xs
-  keep-all p [] h = refl
-  keep-all p (x ∷ xs) h = ap₂ (λ t r. keepIf t x r) (h x) (keep-all p xs h)
-
-  pub any-join : (p : A → Bool) (xs ys : List A) → any p (xs ++ ys) ≡ (any p xs || any p ys)
-  any-join p [] ys = refl
-  any-join p (x ∷ xs) ys = go (p x) (any-join p xs ys)
-    where
-      go : (t : Bool) → any p (xs ++ ys) ≡ (any p xs || any p ys) → (t || any p (xs ++ ys)) ≡ ((t || any p xs) || any p ys)
-      go true e = refl
-      go false e = e
 
 -- ---- members
 
@@ -58,24 +36,9 @@ mem-any k (x ∷ xs) (inr m) = go (eqb k x) (mem-any k xs m)
 
 -- ---- the lowest number that passes
 
-pub every-from : (P : ℕ → Type 0) (i n : ℕ) → Every P (uptoFrom i n) → (k : ℕ) → i ≤ k → k < i + n → P k
-every-from P i zero h k a b = absurd (omega arith)
-every-from P i (suc n) h k a b = go (split i k) (λ l. every-from P (suc i) n (h .1) k l (omega arith))
-  where
-    go : (i < k) ⊎ (k ≤ i) → (i < k → P k) → P k
-    go (inl l) rest = rest l
-    go (inr l) rest = let here : i ≡ k = omega arith in subst P here (h .0)
-
-every-above : (P : ℕ → Type 0) (i n : ℕ) → ((k : ℕ) → i ≤ k → P k) → Every P (uptoFrom i n)
-every-above P i zero h = tt
-every-above P i (suc n) h = (h i (omega arith), every-above P (suc i) n (λ k a. h k (omega arith)))
-
 module _ (p : ℕ → Bool) where
-  keep-none : (i n : ℕ) → ((k : ℕ) → i ≤ k → k < i + n → p k ≡ false) → keep p (uptoFrom i n) ≡ []
-  keep-none i zero h = refl
-  keep-none i (suc n) h =
-      ap (λ t. keepIf t i (keep p (uptoFrom (suc i) n))) (h i (omega arith) (omega arith))
-      ∙ keep-none (suc i) n (λ k a b. h k (omega arith) (omega arith))
+  none-passes : (i n : ℕ) → ((k : ℕ) → i ≤ k → k < i + n → p k ≡ false) → keep p (uptoFrom i n) ≡ []
+  none-passes i n h = keep-none p (uptoFrom i n) (every-upto (λ k. p k ≡ false) i n h)
 
   pub keep-lowest : (i n k : ℕ) → i ≤ k → k < i + n → p k ≡ true → ((j : ℕ) → i ≤ j → j < k → p j ≡ false)
       → take 1 (keep p (uptoFrom i n)) ≡ k ∷ []
@@ -146,7 +109,7 @@ keep-less p q i (suc n) k a b e f h = go (split i k) (λ l. keep-less p q (suc i
     go (inr l) rest =
         let here : i ≡ k = omega arith in
         ap (λ t. length (keepIf t i (keep p (uptoFrom (suc i) n)))) (ap p here ∙ e)
-        ∙ ap suc (ap length (keep-same p q (uptoFrom (suc i) n) (every-above (λ j. p j ≡ q j) (suc i) n (λ j c. sym (h j (λ d. omega arith))))))
+        ∙ ap suc (ap length (keep-same p q (uptoFrom (suc i) n) (every-upto (λ j. p j ≡ q j) (suc i) n (λ j c d. sym (h j (λ e. omega arith))))))
         ∙ (omega arith)
         ∙ ap (λ t. length (keepIf t i (keep q (uptoFrom (suc i) n))) + 1) (sym (ap q here ∙ f))
 
@@ -180,12 +143,12 @@ times-keep k p (x ∷ xs) = go (eqb k x) refl (times-keep k p xs)
 
 -- of i, .., i + n - 1
 times-below : (k i n : ℕ) → k < i → times k (uptoFrom i n) ≡ 0
-times-below k i n h = ap length (keep-none (eqb k) i n (λ j a b. ne-eqb k j (λ e. omega arith)))
+times-below k i n h = ap length (none-passes (eqb k) i n (λ j a b. ne-eqb k j (λ e. omega arith)))
 
 pub times-upto : (k i n : ℕ) → i ≤ k → k < i + n → times k (uptoFrom i n) ≡ 1
 times-upto k i n a b =
     keep-less (eqb k) (λ j. false) i n k a b (eq-eqb k k refl) refl (λ j h. sym (ne-eqb k j (λ e. h (sym e))))
-    ∙ ap (λ (xs : List ℕ). length xs + 1) (keep-none (λ j. false) i n (λ j c d. refl))
+    ∙ ap (λ (xs : List ℕ). length xs + 1) (none-passes (λ j. false) i n (λ j c d. refl))
 
 pub times-once : (k i n : ℕ) → times k (uptoFrom i n) ≤ 1
 times-once k i zero = omega arith

@@ -2,7 +2,7 @@
 -- Assumes nothing.
 use mathlib.Core.Path.{_≡_, refl, sym, ap, ap₂, _∙_, subst}
 use mathlib.Core.Logic.{inl, inr}
-use mathlib.Core.Bool.{Bool, true, false, _&&_, _||_, false≢true}
+use mathlib.Core.Bool.{Bool, true, false, not, _&&_, _||_, false≢true}
 use mathlib.Core.List.{List, [], _∷_, _++_, map}
 use Prim.Native.Nat.{ℕ, zero, suc, _+_, _*_, _<_, _≤_}
 use native.Mathlib.Nat.{le-of-suc-le-suc}
@@ -30,6 +30,25 @@ pub either-false : (t u : Bool) → (t || u) ≡ false → (t ≡ false) × (u �
 either-false false u e = (refl, e)
 either-false true u e = absurd (false≢true (sym e))
 
+pub or-false : (t : Bool) → (t || false) ≡ t
+or-false true = refl
+or-false false = refl
+
+pub or-true : (t : Bool) → (t || true) ≡ true
+or-true true = refl
+or-true false = refl
+
+pub not-not : (t : Bool) → not (not t) ≡ t
+not-not true = refl
+not-not false = refl
+
+-- a test after another that was passed, or was not
+pub when-true : (s t : Bool) → s ≡ true → t ≡ (s && t)
+when-true s t e = sym (ap (λ x. x && t) e)
+
+pub when-false : (s t : Bool) → s ≡ false → false ≡ (s && t)
+when-false s t e = sym (ap (λ x. x && t) e)
+
 pub within-is : (lo hi x : ℕ) → within lo hi x ≡ true → (lo ≤ x) × (x ≤ hi)
 within-is lo hi x e =
     let h : (leb lo x ≡ true) × (leb x hi ≡ true) = both-true (leb lo x) (leb x hi) e in
@@ -49,6 +68,39 @@ module _ {A : Type 0} where
   pub keep-append : (p : A → Bool) (xs ys : List A) → keep p (xs ++ ys) ≡ keep p xs ++ keep p ys
   keep-append p [] ys = refl
   keep-append p (x ∷ xs) ys = ap (keepIf (p x) x) (keep-append p xs ys) ∙ sym (keepIf-append (p x) x (keep p xs) (keep p ys))
+
+  -- two tests, one after the other
+  pub keep-keep : (p q : A → Bool) (xs : List A) → keep p (keep q xs) ≡ keep (λ x. q x && p x) xs
+  keep-keep p q [] = refl
+  keep-keep p q (x ∷ xs) = go (q x) (keep-keep p q xs)
+    where
+      go : (t : Bool) → keep p (keep q xs) ≡ keep (λ y. q y && p y) xs → keep p (keepIf t x (keep q xs)) ≡ keepIf (t && p x) x (keep (λ y. q y && p y) xs)
+      go true e = ap (keepIf (p x) x) e
+      go false e = e
+
+  pub keep-all : (p : A → Bool) (xs : List A) → ((x : A) → p x ≡ true) → keep p xs ≡ xs
+  keep-all p [] h = refl
+  keep-all p (x ∷ xs) h = ap₂ (λ t r. keepIf t x r) (h x) (keep-all p xs h)
+
+  pub keep-none : (p : A → Bool) (xs : List A) → Every (λ x. p x ≡ false) xs → keep p xs ≡ []
+  keep-none p [] h = refl
+  keep-none p (x ∷ xs) h = ap (λ t. keepIf t x (keep p xs)) (h .0) ∙ keep-none p xs (h .1)
+
+  pub any-join : (p : A → Bool) (xs ys : List A) → any p (xs ++ ys) ≡ (any p xs || any p ys)
+  any-join p [] ys = refl
+  any-join p (x ∷ xs) ys = go (p x) (any-join p xs ys)
+    where
+      go : (t : Bool) → any p (xs ++ ys) ≡ (any p xs || any p ys) → (t || any p (xs ++ ys)) ≡ ((t || any p xs) || any p ys)
+      go true e = refl
+      go false e = e
+
+  pub any-keep : (p q : A → Bool) (xs : List A) → any p (keep q xs) ≡ any (λ x. q x && p x) xs
+  any-keep p q [] = refl
+  any-keep p q (x ∷ xs) = go (q x) (any-keep p q xs)
+    where
+      go : (t : Bool) → any p (keep q xs) ≡ any (λ y. q y && p y) xs → any p (keepIf t x (keep q xs)) ≡ ((t && p x) || any (λ y. q y && p y) xs)
+      go true e = ap (λ u. p x || u) e
+      go false e = e
 
   pub keep-same : (p q : A → Bool) (xs : List A) → Every (λ x. p x ≡ q x) xs → keep p xs ≡ keep q xs
   keep-same p q [] h = refl

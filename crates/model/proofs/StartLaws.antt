@@ -13,9 +13,10 @@ use lib.Seq.{take-append-le, take-at, getD-at, take-take}
 use borrow.Author.Tests.{eqb-true, eqb-false, eq-eqb, ne-eqb, not-true, not-false}
 use Rattle.model.specs.Lists.{within, uptoFrom, Mem, keepIf, keep, any, isEmpty}
 use Rattle.model.specs.Order.{Running, starts, starting, named, badName, wrongNames, blocked, someBlocked, left, ready, startable, startNext, startedAfter, startOrder, StepFinds, times, Waits, Ordered}
-use Rattle.model.proofs.ListLaws.{both-true, either-false, within-is, any-false, every-kept}
+use Rattle.model.proofs.ListLaws.{both-true, either-false, or-false, or-true, within-is, keep-keep, keep-all, any-join, any-false, every-kept}
+use Rattle.model.proofs.UptoLaws.{every-from}
 use Rattle.model.proofs.IntegerLaws.{split}
-use Rattle.model.proofs.KeepLaws.{keep-keep, keep-all, any-join, any-mem, mem-any, every-from, keep-lowest, lowest-of, keep-some, keep-less, times-join, times-keep, times-upto, times-once}
+use Rattle.model.proofs.KeepLaws.{any-mem, mem-any, keep-lowest, lowest-of, keep-some, keep-less, times-join, times-keep, times-upto, times-once}
 
 -- ---- a load that is not ready waits for another
 
@@ -108,14 +109,6 @@ step-finds n old new names started right free e =
     ∙ find n old new names right free n started (some .number) (some .low) (some .high) (omega (arith, some .low)) (some .passes)
 
 -- ---- what is left after a step
-
-pub or-false : (t : Bool) → (t || false) ≡ t
-or-false true = refl
-or-false false = refl
-
-pub or-true : (t : Bool) → (t || true) ≡ true
-or-true true = refl
-or-true false = refl
 
 -- whether load j has been started, once load k is
 pub listed-other : (xs : List ℕ) (j k : ℕ) → (j ≡ k → ⊥) → any (eqb j) (xs ++ k ∷ []) ≡ any (eqb j) xs

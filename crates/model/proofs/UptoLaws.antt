@@ -1,7 +1,8 @@
 -- Lists over the numbers below a bound, `map f (upto n)`: their elements, and what a loop over them shows turn by turn.
 -- Assumes nothing.
-use mathlib.Core.Path.{_≡_, refl, sym, ap, ap₂, _∙_}
+use mathlib.Core.Path.{_≡_, refl, sym, ap, ap₂, _∙_, subst}
 use mathlib.Core.Bool.{Bool, true, false, _||_}
+use mathlib.Core.Logic.{_⊎_, inl, inr}
 use mathlib.Core.List.{List, [], _∷_, _++_, map, map-append}
 use Prim.Native.Nat.{ℕ, zero, suc, _+_, _<_, _≤_}
 use native.Mathlib.Nat.{add-zero, zero-add, not-suc-le-zero, le-of-suc-le-suc}
@@ -9,7 +10,9 @@ use native.Mathlib.Numerals.{add-one}
 use native.Mathlib.Omega.{arith}
 use lib.ListN.{length, getD, take, set}
 use lib.Seq.{take-all, take-suc-set, ext-getD}
-use Rattle.model.specs.Lists.{uptoFrom, upto, any}
+use Rattle.model.specs.Lists.{uptoFrom, upto, Every, any}
+use Rattle.model.proofs.ListLaws.{any-join}
+use Rattle.model.proofs.IntegerLaws.{split}
 
 pub suc-across : (i k : ℕ) → i + suc k ≡ suc i + k
 suc-across i k = omega arith
@@ -21,6 +24,23 @@ from-last i (suc n) =
 
 pub upto-last : (n : ℕ) → upto (suc n) ≡ upto n ++ (n ∷ [])
 upto-last n = from-last 0 n ∙ ap (λ k. upto n ++ (k ∷ [])) (zero-add n)
+
+pub from-suc : (i n : ℕ) → uptoFrom (suc i) n ≡ map suc (uptoFrom i n)
+from-suc i zero = refl
+from-suc i (suc n) = ap {B = List ℕ} (λ r. suc i ∷ r) (from-suc (suc i) n)
+
+-- a property of each of i, .., i + n - 1
+pub every-from : (P : ℕ → Type 0) (i n : ℕ) → Every P (uptoFrom i n) → (k : ℕ) → i ≤ k → k < i + n → P k
+every-from P i zero h k a b = absurd (omega arith)
+every-from P i (suc n) h k a b = go (split i k) (λ l. every-from P (suc i) n (h .1) k l (omega arith))
+  where
+    go : (i < k) ⊎ (k ≤ i) → (i < k → P k) → P k
+    go (inl l) rest = rest l
+    go (inr l) rest = let here : i ≡ k = omega arith in subst P here (h .0)
+
+pub every-upto : (P : ℕ → Type 0) (i n : ℕ) → ((k : ℕ) → i ≤ k → k < i + n → P k) → Every P (uptoFrom i n)
+every-upto P i zero h = tt
+every-upto P i (suc n) h = (h i (omega arith) (omega arith), every-upto P (suc i) n (λ k a b. h k (omega arith) (omega arith)))
 
 module _ {A : Type 0} (f : ℕ → A) where
   length-from : (i n : ℕ) → length (map f (uptoFrom i n)) ≡ n
@@ -81,18 +101,12 @@ module _ {A : Type 0} (f : ℕ → A) where
     pub any-here : (n k : ℕ) → k < n → p (f k) ≡ true → any p (map f (upto n)) ≡ true
     any-here n k h e = any-here-from 0 n k h (ap (λ j. p (f j)) (zero-add k) ∙ e)
 
-    any-append : (xs : List A) (y : A) → any p xs ≡ false → p y ≡ false → any p (xs ++ (y ∷ [])) ≡ false
-    any-append [] y a b = rw b
-    any-append (x ∷ xs) y a b = go (p x) a (any-append xs y)
-      where
-        go : (t : Bool) → (t || any p xs) ≡ false → (any p xs ≡ false → p y ≡ false → any p (xs ++ (y ∷ [])) ≡ false)
-            → (t || any p (xs ++ (y ∷ []))) ≡ false
-        go true q rest = q
-        go false q rest = rest q b
-
     pub any-more : (n : ℕ) → any p (map f (upto n)) ≡ false → p (f n) ≡ false → any p (map f (upto (n + 1))) ≡ false
     any-more n a b =
-        ap (λ m. any p (map f (upto m))) (add-one n) ∙ ap (any p) (map-last n) ∙ any-append (map f (upto n)) (f n) a b
+        ap (λ m. any p (map f (upto m))) (add-one n)
+        ∙ ap (any p) (map-last n)
+        ∙ any-join p (map f (upto n)) (f n ∷ [])
+        ∙ ap₂ (λ t u. t || (u || false)) a b
 
 -- one element changed
 module _ {A : Type 0} (f g : ℕ → A) where

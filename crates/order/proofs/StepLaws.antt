@@ -18,8 +18,8 @@ use Rattle.model.specs.Refusals.{done}
 use Rattle.model.specs.Answers.{bytesOnly, bufferAfter}
 use Rattle.model.specs.Order.{Running, starts, ready, startedAfter, startOrder}
 use Rattle.model.proofs.IntegerLaws.{split}
-use Rattle.model.proofs.ListLaws.{both-true}
-use Rattle.model.proofs.StartLaws.{waiting, listed-other, listed-last, or-false, or-true, Next, next-taken, Run, next-found, run-after}
+use Rattle.model.proofs.ListLaws.{both-true, or-false, or-true}
+use Rattle.model.proofs.StartLaws.{waiting, listed-other, listed-last, Next, next-taken, Run, next-found, run-after}
 use Rattle.hex.specs.Written.{written}
 use Rattle.hex.proofs.WrittenLaws.{written-none, write-on, write-byte, written-start}
 use Rattle.starts.specs.Places.{runningIn, startsAt, served, mayStartAt, Found}

@@ -3,7 +3,7 @@
 use Prim.Native.Nat.{ℕ, zero, suc, _+_, _-_, _*_, _%_, _^_, _<_, _≤_}
 use mathlib.Core.Path.{_≡_, refl, sym, ap, ap₂, _∙_}
 use mathlib.Core.Bool.{Bool, true, false, cond, not, _&&_, _||_}
-use mathlib.Core.List.{List, [], _∷_, map}
+use mathlib.Core.List.{List, map}
 use native.Mathlib.Nat.{lt-of-le-of-lt, mod-eq-of-lt}
 use native.Mathlib.Omega.{arith}
 use lib.Bits.{bitAnd, and-le-l, and-mod}
@@ -11,19 +11,12 @@ use lib.Dec.{eqb}
 use lib.ListN.{length, getD}
 use borrow.Author.Tests.{lt-ltb, eq-eqb, ne-eqb}
 use Rattle.model.specs.Bounds.{mostLoads}
-use Rattle.model.specs.Lists.{uptoFrom, upto, keepIf, keep, any}
+use Rattle.model.specs.Lists.{uptoFrom, upto, any}
 use Rattle.model.specs.Order.{Running, starts, starting, maskFrom, andNot, badName, wrongNames, blocked, someBlocked}
-use Rattle.model.proofs.UptoLaws.{any-here}
+use Rattle.model.proofs.ListLaws.{not-not, any-keep}
+use Rattle.model.proofs.UptoLaws.{from-suc, any-here}
 use Rattle.model.proofs.StartLaws.{name-higher}
 use Rattle.starts.specs.Places.{runningIn, badNameAt, startsAt, served, blockedAt, NamesInside}
-
--- ---- two tests, one after the other
-
-pub when-true : (s t : Bool) → s ≡ true → t ≡ (s && t)
-when-true s t e = sym (ap (λ x. x && t) e)
-
-pub when-false : (s t : Bool) → s ≡ false → false ≡ (s && t)
-when-false s t e = sym (ap (λ x. x && t) e)
 
 -- ---- masks
 
@@ -48,17 +41,9 @@ wide-and-not x y hx hy =
 
 -- ---- load k + 1 stands at place k
 
-from-suc : (i n : ℕ) → uptoFrom (suc i) n ≡ map suc (uptoFrom i n)
-from-suc i zero = refl
-from-suc i (suc n) = ap {B = List ℕ} (λ r. suc i ∷ r) (from-suc (suc i) n)
-
 -- a load that runs
 pub runs-at : (n : ℕ) (picks : List ℕ) (k : ℕ) → k < n → runningIn n picks (suc k) ≡ not (eqb (getD picks k 0) 0)
 runs-at n picks k l = ap (λ t. t && not (eqb (getD picks k 0) 0)) (lt-ltb k n l)
-
-not-not : (t : Bool) → not (not t) ≡ t
-not-not true = refl
-not-not false = refl
 
 -- a load that starts
 starts-are : (n : ℕ) (on planned : List ℕ) (k : ℕ) → k < n → starts (runningIn n on) (runningIn n planned) (suc k) ≡ startsAt on planned k
@@ -103,14 +88,6 @@ names-inside names few right = record { few = few; inside = λ k l. go k l (getD
     go k l (suc m) e = omega (arith, name-higher (length names) names right (suc k) (omega arith) (omega arith) (λ q. omega arith) .1)
 
 -- ---- refusal 16
-
-any-keep : {A : Type 0} (p q : A → Bool) (xs : List A) → any p (keep q xs) ≡ any (λ x. q x && p x) xs
-any-keep p q [] = refl
-any-keep p q (x ∷ xs) = go (q x) (any-keep p q xs)
-  where
-    go : (t : Bool) → any p (keep q xs) ≡ any (λ y. q y && p y) xs → any p (keepIf t x (keep q xs)) ≡ ((t && p x) || any (λ y. q y && p y) xs)
-    go true e = ap (λ u. p x || u) e
-    go false e = e
 
 module _ (running planned names : List ℕ) where
   abbrev n : ℕ

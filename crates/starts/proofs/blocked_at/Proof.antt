@@ -3,7 +3,7 @@ use mathlib.Core.Path.{sym, ap, _∙_}
 use mathlib.Core.Bool.{not}
 use borrow.Author.Needs.{needs}
 use Rattle.starts.specs.Places.{startsAt, served}
-use Rattle.starts.proofs.PlaceLaws.{when-true, when-false}
+use Rattle.model.proofs.ListLaws.{when-true, when-false}
 use Rattle.starts.proofs.blocked_at.Statement.{statement}
 use Rattle.starts.proofs.blocked_at.Tie as tie
 

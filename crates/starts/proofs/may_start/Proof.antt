@@ -2,7 +2,7 @@
 use mathlib.Core.Path.{sym, _∙_}
 use borrow.Author.Needs.{needs}
 use Rattle.starts.specs.Places.{startsAt, served}
-use Rattle.starts.proofs.PlaceLaws.{when-true, when-false}
+use Rattle.model.proofs.ListLaws.{when-true, when-false}
 use Rattle.starts.proofs.may_start.Statement.{statement}
 use Rattle.starts.proofs.may_start.Tie as tie
 

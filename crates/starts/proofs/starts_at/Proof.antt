@@ -4,7 +4,7 @@ use lib.Dec.{eqb}
 use lib.ListN.{getD}
 use borrow.Author.Needs.{needs}
 use borrow.Author.Tests.{eq-eqb, ne-eqb}
-use Rattle.starts.proofs.PlaceLaws.{when-true, when-false}
+use Rattle.model.proofs.ListLaws.{when-true, when-false}
 use Rattle.starts.proofs.starts_at.Statement.{statement}
 use Rattle.starts.proofs.starts_at.Tie as tie
 
