@@ -32,7 +32,7 @@ int order(const std::string &book, const std::string &running, const std::string
         if (names[load - 1] == 0)
             std::printf("start load %zu\n", load);
         else
-            std::printf("start load %zu, behind load %d\n", load, names[load - 1]);
+            std::printf("start load %zu, after load %d\n", load, names[load - 1]);
     }
     std::printf("%d start, %d stop\n", static_cast<int>(answer.starts), static_cast<int>(answer.stops));
     return 0;

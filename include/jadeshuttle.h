@@ -7,7 +7,7 @@
  *   jadeshuttle_quick       the quick planner: level 1 only, smallest loads first
  *   jadeshuttle_read_sheet  the sheet reader: whether a sheet belongs to a book
  *   jadeshuttle_charge      the charge: what a sheet's energy costs
- *   jadeshuttle_order       the order of starting: from the running sheet to the next
+ *   jadeshuttle_order       the order of starting: in which a new sheet's loads start
  *
  * docs/HANDBOOK.md describes the book and the sheet field by field, what the
  * limits mean for a relay, how large a work area a book needs, what a price is, and
@@ -26,8 +26,8 @@
  *     than PTRDIFF_MAX bytes.
  *   - What is written may overlap nothing else: `work` and the planners' `sheet`
  *     lie apart from each other and from `book`, and `order` from all that the call
- *     reads. What is only read may overlap: the sheet reader and the charge write
- *     nothing.
+ *     reads. What is only read may overlap, so all that the sheet reader and the
+ *     charge take.
  *   - `work`, the planners' `sheet` and `order` need no first values. No answer
  *     depends on them.
  *
@@ -74,10 +74,10 @@ extern "C" {
 
 /*
  * What `number` says. Lines are read in order, and on each line 1 to 7 are tried
- * in this order, as far as they concern it; then 8 to 16, but an order's 11 after
- * its 16. The first that applies
- * is given. `line` is the number of the line in the book, from 1, for 1 to 8; it
- * is 0 for success and from 9 on. Each comment begins with the handbook's word.
+ * in this order, as far as they concern it; then 8 to 16, but an order's 11 comes
+ * after its 16. The first that applies is given. `line` is the number of the line
+ * in the book, from 1, for 1 to 8; it is 0 for success and from 9 on. Each comment
+ * begins with the handbook's word.
  */
 enum jadeshuttle_number {
     JADESHUTTLE_SUCCESS = 0,
@@ -142,8 +142,8 @@ typedef struct jadeshuttle_order_answer {
     uint64_t bytes;  /* bytes of the order that were written, one for each load that starts */
     uint64_t worth;  /* always 0: nothing is planned */
     uint64_t trials; /* always 0 */
-    uint64_t starts; /* loads that stand in the running sheet and run in the new one */
-    uint64_t stops;  /* loads that run in the running sheet and stand in the new one */
+    uint64_t starts; /* how many loads stand in the running sheet and run in the new one */
+    uint64_t stops;  /* how many loads run in the running sheet and stand in the new one */
 } jadeshuttle_order_answer;
 
 /*
@@ -203,8 +203,8 @@ jadeshuttle_charge_answer jadeshuttle_charge(const uint8_t *book, size_t book_le
  * the number of a load that has to run ahead of it, a higher one than its own, or 0
  * for none. Writes the numbers of the loads that start, 1 to 24, a byte each, in
  * order: each time, of those left that name none, or whose named load runs in the
- * running sheet or has been started, the lowest number. A load that changes its
- * level neither starts nor stops.
+ * running sheet or has been started, the lowest number. A load that runs in both,
+ * at whatever levels, neither starts nor stops.
  *
  * Of every order it gives:
  *   - every load that starts stands in it once, and no other;

@@ -202,11 +202,14 @@ impl Call {
         let got = self.sheet.part().get(..written);
         if got != Some(expected.sheet.as_slice()) {
             let got = got.unwrap_or_default().escape_ascii();
-            complaints.push(format!("sheet: expected {}, got {got}", expected.sheet.escape_ascii()));
+            complaints.push(format!(
+                "written: expected {}, got {got}",
+                expected.sheet.escape_ascii()
+            ));
         }
         let changes = [
             ("book", self.book.change(0)),
-            ("sheet buffer", self.sheet.change(written)),
+            ("sheet or buffer", self.sheet.change(written)),
             ("work area", self.work.change(expected.free_words)),
             ("prices", self.prices.change(0)),
             ("running sheet", self.running.change(0)),

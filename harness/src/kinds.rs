@@ -470,7 +470,7 @@ fn price_counts(session: &mut Session) {
     }
 }
 
-/// A book of many loads, two sheets of it, and what stands on the second.
+/// A book of many loads, two sheets of it, and the second's choice.
 fn two_sheets(session: &mut Session) -> (Case, [Vec<u8>; 2], Vec<usize>) {
     let case = drawn(session, MANY);
     let book = case.book.as_ref().expect("a valid book");
@@ -491,7 +491,7 @@ fn orders(session: &mut Session) {
     session.order(&case, [&planned, &planned], &names, 0);
 }
 
-/// Every length of the buffer up to one more than the order needs, and with a name that is not met: 16 comes before 11.
+/// Every length of the buffer up to one more than the order needs, and with any names, of which some are not met: 16 comes before 11.
 fn order_buffers(session: &mut Session) {
     let (case, [running, planned], choice) = two_sheets(session);
     let fitting = names(&mut session.random, &choice, true);
@@ -515,10 +515,11 @@ fn order_names(session: &mut Session) {
         session.order(&case, [&running, &planned], &list, choice.len());
     }
     for at in 0..choice.len() {
-        let (own, above) = (at as u8 + 1, choice.len() as u8 + 1);
-        let lower = session.random.below(at + 1) as u8;
+        let not_above = 1 + session.random.below(at + 1) as u8;
         let mut list = good.clone();
-        list[at] = session.random.pick(&[own, lower, above, 25, 255]);
+        list[at] = session
+            .random
+            .pick(&[not_above, not_above, choice.len() as u8 + 1, 25, 255]);
         let sheets = session
             .random
             .pick(&[[&running[..], &planned], [&running, foreign], [foreign, &planned]]);

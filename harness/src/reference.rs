@@ -176,7 +176,7 @@ impl Case {
         let (book, old, _) = self.read_with(running)?;
         let (_, new, _) = self.read_with(planned)?;
         refuse_if(!order::names_are_right(names, book.loads.len()), 15)?;
-        refuse_if(order::some_wait_for_ever(&old, &new, names), 16)?;
+        refuse_if(order::some_named_load_stands(&old, &new, names), 16)?;
         let order = order::of(&old, &new, names);
         refuse_if(buffer < order.len(), 11)?;
         let first = Answer {

@@ -65,6 +65,8 @@ const PRICES: &[Alteration] = &[("first price", |call| call.prices.flip(0))];
 /// For the order alone.
 const ORDERED: &[Alteration] = &[
     ("stops", |call| call.answer.further[1] ^= 1),
+    ("last byte of the order", |call| call.sheet.flip(1)),
+    ("byte past the order", |call| call.sheet.flip(2)),
     ("last byte of the running sheet", |call| call.running.flip_from_end(-1)),
     ("last byte of the new sheet", |call| call.planned.flip_from_end(-1)),
     ("last name", |call| call.names.flip_from_end(-1)),
@@ -161,8 +163,8 @@ fn bases() -> Vec<Base> {
     let quick = |name, case: &Case| base(name, case, Input::quick(&case.text, &free));
     let read = |name, sheet| base(name, &good, Input::read_sheet(&good.text, sheet));
     let charge = |name, sheet, prices| base(name, &good, Input::charge(&good.text, sheet, prices));
-    let standing = sheet::write(good.book.as_ref().expect("a valid book"), &[0, 0, 1], 0);
-    let order = |name, planned, names| base(name, &good, Input::order(&good.text, &standing, planned, names, &free));
+    let running = sheet::write(good.book.as_ref().expect("a valid book"), &[0, 0, 1], 0);
+    let order = |name, planned, names| base(name, &good, Input::order(&good.text, &running, planned, names, &free));
     vec![
         plan("plan, a sheet", &good),
         plan("plan, refusal 1", &unterminated),

@@ -263,7 +263,7 @@ fn named_case(name: &[u8], first: u8, second: u8, order: &mut [u8]) {
     order_case(name, &names, order);
 }
 
-// Load 1 names load 2, and no other is named; a load that names itself; a named load that stops; and a buffer of one byte.
+// A load that names itself; one whose named load stops; then load 1 names load 2, with a buffer of one byte and of two.
 fn orders() {
     let mut one = [46u8; 1];
     let mut two = [46u8; 2];

@@ -52,7 +52,7 @@ pub extern "C" fn jadeshuttle_charge(book: &[u8], sheet: &[u8], prices: &[u16]) 
     charge::charge(book, sheet, prices)
 }
 
-// The order of starting: the loads that start from the running sheet to the new one, or refusals 13, 15, 16 and 11; the book's own refusals come first.
+// The order of starting: the loads that start when the new sheet follows the running one, or refusals 13, 15, 16 and 11; the book's own refusals come first.
 #[no_mangle]
 pub extern "C" fn jadeshuttle_order(
     book: &[u8],

@@ -15,7 +15,7 @@ use borrow.Author.Tests.{eq-eqb, ne-eqb, eqb-true}
 use Rattle.model.specs.Lists.{Every, keep, keepIf, any, distinct}
 use Rattle.model.specs.Choice.{Choice}
 use Rattle.model.specs.Cells.{Key, join, bestKey, choiceKey, bestWhere, joinUpto, isSome, countUpto}
-use Rattle.model.proofs.OrderLaws.{join-none, join-assoc, join-comm}
+use Rattle.model.proofs.KeyLaws.{join-none, join-assoc, join-comm}
 
 -- ---- the best of the cells
 

@@ -9,36 +9,17 @@ use native.Mathlib.Omega.{arith}
 use lib.Dec.{eqb}
 use lib.ListN.{length, take, length-append}
 use borrow.Author.Tests.{eqb-true, eq-eqb, ne-eqb}
-use Rattle.model.specs.Lists.{uptoFrom, Mem, keepIf, keep, any, isEmpty}
-use Rattle.model.specs.Order.{times}
+use Rattle.model.specs.Lists.{uptoFrom, keepIf, keep, isEmpty}
+use Rattle.model.specs.Order.{howOften}
 use Rattle.model.proofs.ListLaws.{keep-append, keep-same, keep-none}
-use Rattle.model.proofs.UptoLaws.{every-upto}
+use Rattle.model.proofs.UptoLaws.{every-from}
 use Rattle.model.proofs.IntegerLaws.{split}
-
--- ---- members
-
-pub any-mem : (k : ℕ) (xs : List ℕ) → any (eqb k) xs ≡ true → Mem k xs
-any-mem k [] e = absurd (false≢true e)
-any-mem k (x ∷ xs) e = go (eqb k x) refl e (any-mem k xs)
-  where
-    go : (t : Bool) → eqb k x ≡ t → (t || any (eqb k) xs) ≡ true → (any (eqb k) xs ≡ true → Mem k xs) → Mem k (x ∷ xs)
-    go true q f rest = inl (eqb-true k x q)
-    go false q f rest = inr (rest f)
-
-pub mem-any : (k : ℕ) (xs : List ℕ) → Mem k xs → any (eqb k) xs ≡ true
-mem-any k [] m = absurd m
-mem-any k (x ∷ xs) (inl e) = ap (λ t. t || any (eqb k) xs) (eq-eqb k x e)
-mem-any k (x ∷ xs) (inr m) = go (eqb k x) (mem-any k xs m)
-  where
-    go : (t : Bool) → any (eqb k) xs ≡ true → (t || any (eqb k) xs) ≡ true
-    go true e = refl
-    go false e = e
 
 -- ---- the lowest number that passes
 
 module _ (p : ℕ → Bool) where
   none-passes : (i n : ℕ) → ((k : ℕ) → i ≤ k → k < i + n → p k ≡ false) → keep p (uptoFrom i n) ≡ []
-  none-passes i n h = keep-none p (uptoFrom i n) (every-upto (λ k. p k ≡ false) i n h)
+  none-passes i n h = keep-none p (uptoFrom i n) (every-from (λ k. p k ≡ false) i n h)
 
   pub keep-lowest : (i n k : ℕ) → i ≤ k → k < i + n → p k ≡ true → ((j : ℕ) → i ≤ j → j < k → p j ≡ false)
       → take 1 (keep p (uptoFrom i n)) ≡ k ∷ []
@@ -109,51 +90,51 @@ keep-less p q i (suc n) k a b e f h = go (split i k) (λ l. keep-less p q (suc i
     go (inr l) rest =
         let here : i ≡ k = omega arith in
         ap (λ t. length (keepIf t i (keep p (uptoFrom (suc i) n)))) (ap p here ∙ e)
-        ∙ ap suc (ap length (keep-same p q (uptoFrom (suc i) n) (every-upto (λ j. p j ≡ q j) (suc i) n (λ j c d. sym (h j (λ e. omega arith))))))
+        ∙ ap suc (ap length (keep-same p q (uptoFrom (suc i) n) (every-from (λ j. p j ≡ q j) (suc i) n (λ j c d. sym (h j (λ e. omega arith))))))
         ∙ (omega arith)
         ∙ ap (λ t. length (keepIf t i (keep q (uptoFrom (suc i) n))) + 1) (sym (ap q here ∙ f))
 
 -- ---- how often a number stands in a list
 
-pub times-join : (k : ℕ) (xs ys : List ℕ) → times k (xs ++ ys) ≡ times k xs + times k ys
-times-join k xs ys = ap length (keep-append (eqb k) xs ys) ∙ length-append (keep (eqb k) xs) (keep (eqb k) ys)
+pub often-join : (k : ℕ) (xs ys : List ℕ) → howOften k (xs ++ ys) ≡ howOften k xs + howOften k ys
+often-join k xs ys = ap length (keep-append (eqb k) xs ys) ∙ length-append (keep (eqb k) xs) (keep (eqb k) ys)
 
 -- a list of which only what passes is kept
-pub times-keep : (k : ℕ) (p : ℕ → Bool) (xs : List ℕ) → times k (keep p xs) ≡ cond (p k) (times k xs) 0
-times-keep k p [] = same (p k)
+pub often-keep : (k : ℕ) (p : ℕ → Bool) (xs : List ℕ) → howOften k (keep p xs) ≡ cond (p k) (howOften k xs) 0
+often-keep k p [] = same (p k)
   where
     same : (t : Bool) → Path ℕ 0 (cond t 0 0)
     same true = refl
     same false = refl
-times-keep k p (x ∷ xs) = go (eqb k x) refl (times-keep k p xs)
+often-keep k p (x ∷ xs) = go (eqb k x) refl (often-keep k p xs)
   where
-    here : (t : Bool) → times k (keep p xs) ≡ cond t (times k xs) 0 → eqb k x ≡ true → times k (keepIf t x (keep p xs)) ≡ cond t (suc (times k xs)) 0
+    here : (t : Bool) → howOften k (keep p xs) ≡ cond t (howOften k xs) 0 → eqb k x ≡ true → howOften k (keepIf t x (keep p xs)) ≡ cond t (suc (howOften k xs)) 0
     here true r q = ap (λ u. length (keepIf u x (keep (eqb k) (keep p xs)))) q ∙ ap suc r
     here false r q = r
 
-    other : (t : Bool) → times k (keep p xs) ≡ cond (p k) (times k xs) 0 → eqb k x ≡ false
-        → times k (keepIf t x (keep p xs)) ≡ cond (p k) (times k xs) 0
+    other : (t : Bool) → howOften k (keep p xs) ≡ cond (p k) (howOften k xs) 0 → eqb k x ≡ false
+        → howOften k (keepIf t x (keep p xs)) ≡ cond (p k) (howOften k xs) 0
     other true r q = ap (λ u. length (keepIf u x (keep (eqb k) (keep p xs)))) q ∙ r
     other false r q = r
 
-    go : (t : Bool) → eqb k x ≡ t → times k (keep p xs) ≡ cond (p k) (times k xs) 0
-        → times k (keepIf (p x) x (keep p xs)) ≡ cond (p k) (length (keepIf t x (keep (eqb k) xs))) 0
-    go true q r = ap (λ y. times k (keepIf (p y) x (keep p xs))) (sym (eqb-true k x q)) ∙ here (p k) r q
+    go : (t : Bool) → eqb k x ≡ t → howOften k (keep p xs) ≡ cond (p k) (howOften k xs) 0
+        → howOften k (keepIf (p x) x (keep p xs)) ≡ cond (p k) (length (keepIf t x (keep (eqb k) xs))) 0
+    go true q r = ap (λ y. howOften k (keepIf (p y) x (keep p xs))) (sym (eqb-true k x q)) ∙ here (p k) r q
     go false q r = other (p x) r q
 
 -- of i, .., i + n - 1
-times-below : (k i n : ℕ) → k < i → times k (uptoFrom i n) ≡ 0
-times-below k i n h = ap length (none-passes (eqb k) i n (λ j a b. ne-eqb k j (λ e. omega arith)))
+often-below : (k i n : ℕ) → k < i → howOften k (uptoFrom i n) ≡ 0
+often-below k i n h = ap length (none-passes (eqb k) i n (λ j a b. ne-eqb k j (λ e. omega arith)))
 
-pub times-upto : (k i n : ℕ) → i ≤ k → k < i + n → times k (uptoFrom i n) ≡ 1
-times-upto k i n a b =
+pub often-upto : (k i n : ℕ) → i ≤ k → k < i + n → howOften k (uptoFrom i n) ≡ 1
+often-upto k i n a b =
     keep-less (eqb k) (λ j. false) i n k a b (eq-eqb k k refl) refl (λ j h. sym (ne-eqb k j (λ e. h (sym e))))
     ∙ ap (λ (xs : List ℕ). length xs + 1) (none-passes (λ j. false) i n (λ j c d. refl))
 
-pub times-once : (k i n : ℕ) → times k (uptoFrom i n) ≤ 1
-times-once k i zero = omega arith
-times-once k i (suc n) = go (eqb k i) refl (times-once k (suc i) n)
+pub often-once : (k i n : ℕ) → howOften k (uptoFrom i n) ≤ 1
+often-once k i zero = omega arith
+often-once k i (suc n) = go (eqb k i) refl (often-once k (suc i) n)
   where
-    go : (t : Bool) → eqb k i ≡ t → times k (uptoFrom (suc i) n) ≤ 1 → length (keepIf t i (keep (eqb k) (uptoFrom (suc i) n))) ≤ 1
-    go true q rest = omega (arith, times-below k (suc i) n (omega (arith, eqb-true k i q)))
+    go : (t : Bool) → eqb k i ≡ t → howOften k (uptoFrom (suc i) n) ≤ 1 → length (keepIf t i (keep (eqb k) (uptoFrom (suc i) n))) ≤ 1
+    go true q rest = omega (arith, often-below k (suc i) n (omega (arith, eqb-true k i q)))
     go false q rest = rest

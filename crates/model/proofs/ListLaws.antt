@@ -197,6 +197,25 @@ module _ {A B : Type 0} where
   pub every-image : (P : B → Type 0) (f : A → B) (xs : List A) → ((x : A) → P (f x)) → Every P (map f xs)
   every-image P f xs h = every-map P f xs (every-all (λ x. P (f x)) xs h)
 
+-- ---- members
+
+pub any-mem : (k : ℕ) (xs : List ℕ) → any (eqb k) xs ≡ true → Mem k xs
+any-mem k [] e = absurd (false≢true e)
+any-mem k (x ∷ xs) e = go (eqb k x) refl e (any-mem k xs)
+  where
+    go : (t : Bool) → eqb k x ≡ t → (t || any (eqb k) xs) ≡ true → (any (eqb k) xs ≡ true → Mem k xs) → Mem k (x ∷ xs)
+    go true q f rest = inl (eqb-true k x q)
+    go false q f rest = inr (rest f)
+
+pub mem-any : (k : ℕ) (xs : List ℕ) → Mem k xs → any (eqb k) xs ≡ true
+mem-any k [] m = absurd m
+mem-any k (x ∷ xs) (inl e) = ap (λ t. t || any (eqb k) xs) (eq-eqb k x e)
+mem-any k (x ∷ xs) (inr m) = go (eqb k x) (mem-any k xs m)
+  where
+    go : (t : Bool) → any (eqb k) xs ≡ true → (t || any (eqb k) xs) ≡ true
+    go true e = refl
+    go false e = e
+
 -- ---- sums
 
 pub sum-more : (f : ℕ → ℕ) (n : ℕ) → sumBelow (n + 1) f ≡ sumBelow n f + f n

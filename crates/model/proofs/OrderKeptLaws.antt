@@ -41,9 +41,9 @@ module _ (book running planned names : List ℕ) (room : ℕ) {before after : Li
       record {
         b = b;
         reads = read .1;
-        old = now .0;
+        oldChoice = now .0;
         runs-now = now .1;
-        new = next .0;
+        newChoice = next .0;
         runs-next = next .1;
         ordered = subst (Ordered n old new names) written (order-kept n old new names (none .0) (none .1 .0) refl);
         starts = w .starts ∙ sym (ap (λ (y : OrderData). y .starts) is) ∙ starts-counted n old new few;

@@ -16,7 +16,7 @@ use Rattle.model.specs.Choice.{Choice, IsChoice, choices, withEach, wort
 use Rattle.model.specs.Grid.{Slot, slotsOf, keepsLimits, admitted, better, betterOf, best, bestAdmitted, plan, IsPlan}
 use Rattle.model.specs.Cells.{Key, beats, betterKey, join, bestKey, choiceKey}
 use Rattle.model.proofs.ListLaws.{every-imp, every-keep, every-kept, every-append, every-left, every-right}
-use Rattle.model.proofs.OrderLaws.{Versus, versus, less, tie-more, not-trans, not-both}
+use Rattle.model.proofs.KeyLaws.{Versus, versus, less, tie-more, not-trans, not-both}
 use Rattle.model.proofs.RecurrenceLaws.{key?, best-key}
 use Rattle.model.proofs.AdmissionLaws.{slots-for, keeps-admitted, admitted-is}
 

@@ -12,7 +12,7 @@ use Rattle.model.specs.Book.{Power, Setting, Settings}
 use Rattle.model.specs.Choice.{Choice, choices, codeOf}
 use Rattle.model.specs.Grid.{Slot, gridIn, gridsOf, admits, admitted, better, betterOf, best, bestAdmitted}
 use Rattle.model.specs.Cells.{Key, join, bestKey, shift, shift?, settingGrids, choiceKey, bestWhere, bestAt, admitsAll}
-use Rattle.model.proofs.OrderLaws.{best-append, best-shift}
+use Rattle.model.proofs.KeyLaws.{best-append, best-shift}
 use Rattle.model.proofs.ListLaws.{keep-append, keep-map}
 use Rattle.model.proofs.ChoiceLaws.{snoc, extendEach, choices-last, Sized, choices-sized, worth-last, code-last, plusEach, grids-last}
 

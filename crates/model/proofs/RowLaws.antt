@@ -22,7 +22,7 @@ use Rattle.model.specs.Valid.{SettingKept, SlotsFor, Ready, SettingBelow
 use Rattle.model.specs.Cells.{Key, beats, join, bestKey, settingGrid, settingGrids, choiceKey, bestWhere, bestAt, joinUpto, rangeAll, hasCell, cellBest, Bounded}
 use Rattle.model.specs.Index.{up, down, widthOf, pairsAt, raisedIn, rowIndex, columnIndex, rowCount, columnCount, indexOf, columnUp, columnDown}
 use Rattle.model.specs.Bounds.{mostCells, mostRows}
-use Rattle.model.proofs.OrderLaws.{join-none, join-assoc}
+use Rattle.model.proofs.KeyLaws.{join-none, join-assoc}
 use Rattle.model.proofs.ListLaws.{both, each, bool-same, keep-same, every-imp, every-append, every-at}
 use Rattle.model.proofs.IntegerLaws.{split}
 use Rattle.model.proofs.ChoiceLaws.{snoc, plusEach, grids-last}

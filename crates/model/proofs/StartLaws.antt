@@ -12,11 +12,11 @@ use lib.ListN.{length, getD, take, drop, length-append, take-append-drop, List·
 use lib.Seq.{take-append-le, take-at, getD-at, take-take}
 use borrow.Author.Tests.{eqb-true, eqb-false, eq-eqb, ne-eqb, not-true, not-false}
 use Rattle.model.specs.Lists.{within, uptoFrom, Mem, keepIf, keep, any, isEmpty}
-use Rattle.model.specs.Order.{Running, starts, starting, named, badName, wrongNames, blocked, someBlocked, left, ready, startable, startNext, startedAfter, startOrder, StepFinds, times, Waits, Ordered}
-use Rattle.model.proofs.ListLaws.{both-true, either-false, or-false, or-true, within-is, keep-keep, keep-all, any-join, any-false, every-kept}
-use Rattle.model.proofs.UptoLaws.{every-from}
+use Rattle.model.specs.Order.{Running, starts, starting, named, badName, wrongNames, blocked, someBlocked, left, ready, startable, startNext, startedAfter, startOrder, StepFinds, howOften, Waits, Ordered}
+use Rattle.model.proofs.ListLaws.{both-true, either-false, or-false, or-true, within-is, keep-keep, keep-all, any-join, any-false, any-mem, mem-any, every-kept}
+use Rattle.model.proofs.UptoLaws.{every-at-from}
 use Rattle.model.proofs.IntegerLaws.{split}
-use Rattle.model.proofs.KeepLaws.{any-mem, mem-any, keep-lowest, lowest-of, keep-some, keep-less, times-join, times-keep, times-upto, times-once}
+use Rattle.model.proofs.KeepLaws.{keep-lowest, lowest-of, keep-some, keep-less, often-join, often-keep, often-upto, often-once}
 
 -- ---- a load that is not ready waits for another
 
@@ -39,7 +39,7 @@ module _ (n : ℕ) (names : List ℕ) (right : wrongNames n names ≡ false) whe
   unfolding wrongNames
   name-higher k a b some =
       let each = any-false (badName n names) (uptoFrom 1 n) (either-false (not (eqb (length names) n)) (any (badName n names) (uptoFrom 1 n)) right .1) in
-      let good : badName n names k ≡ false = every-from (λ j. badName n names j ≡ false) 1 n each k a b in
+      let good : badName n names k ≡ false = every-at-from (λ j. badName n names j ≡ false) 1 n each k a b in
       within-is (suc k) n (named names k)
       (not-false (within (suc k) n (named names k)) (sym (ap (λ t. not t && not (within (suc k) n (named names k))) (ne-eqb (named names k) 0 some)) ∙ good))
 
@@ -49,22 +49,23 @@ module _ (n : ℕ) (names : List ℕ) (right : wrongNames n names ≡ false) whe
       eqb-true (length names) n
       (not-false (eqb (length names) n) (either-false (not (eqb (length names) n)) (any (badName n names) (uptoFrom 1 n)) right .0))
 
+-- load k starts, and has not been started
+abbrev pub isLeft : Running → Running → List ℕ → ℕ → Bool
+isLeft old new started k = starts old new k && not (any (eqb k) started)
+
 module _ (n : ℕ) (old new : Running) (names : List ℕ) where
   -- ---- those left, and those of them that may start, by one test
 
-  abbrev pub waiting : List ℕ → ℕ → Bool
-  waiting started k = starts old new k && not (any (eqb k) started)
-
   abbrev mayStart : List ℕ → ℕ → Bool
-  mayStart started k = waiting started k && ready old names started k
+  mayStart started k = isLeft old new started k && ready old names started k
 
-  left-is : (started : List ℕ) → left n old new started ≡ keep (waiting started) (uptoFrom 1 n)
+  left-keeps : (started : List ℕ) → left n old new started ≡ keep (isLeft old new started) (uptoFrom 1 n)
   unfolding left starting
-  left-is started = keep-keep (λ k. not (any (eqb k) started)) (starts old new) (uptoFrom 1 n)
+  left-keeps started = keep-keep (λ k. not (any (eqb k) started)) (starts old new) (uptoFrom 1 n)
 
   startable-is : (started : List ℕ) → startable n old new names started ≡ keep (mayStart started) (uptoFrom 1 n)
   startable-is started =
-      ap (keep (ready old names started)) (left-is started) ∙ keep-keep (ready old names started) (waiting started) (uptoFrom 1 n)
+      ap (keep (ready old names started)) (left-keeps started) ∙ keep-keep (ready old names started) (isLeft old new started) (uptoFrom 1 n)
 
   -- ---- a step finds a load
 
@@ -76,17 +77,17 @@ module _ (n : ℕ) (old new : Running) (names : List ℕ) where
         let each = every-kept (λ j. blocked new names j ≡ false) (starts old new) (uptoFrom 1 n)
         (any-false (blocked new names) (keep (starts old new) (uptoFrom 1 n)) free) in
         let unbarred : blocked new names k ≡ false
-        = every-from (λ j. T (starts old new j) → blocked new names j ≡ false) 1 n each k a b (subst T (sym s) tt) in
+        = every-at-from (λ j. T (starts old new j) → blocked new names j ≡ false) 1 n each k a b (subst T (sym s) tt) in
         not-false (new (named names k)) (sym (ap (λ t. not t && not (new (named names k))) (ne-eqb (named names k) 0 some)) ∙ unbarred)
 
     -- from a load that is left, along the names, to one that may start; `more` bounds how many follow
-    find : (more : ℕ) (started : List ℕ) (k : ℕ) → 1 ≤ k → k < 1 + n → n < k + more → waiting started k ≡ true
+    find : (more : ℕ) (started : List ℕ) (k : ℕ) → 1 ≤ k → k < 1 + n → n < k + more → isLeft old new started k ≡ true
         → isEmpty (keep (mayStart started) (uptoFrom 1 n)) ≡ false
     find zero started k a b l w = absurd (omega arith)
     find (suc more) started k a b l w = go (ready old names started k) refl (find more started)
       where
         go : (t : Bool) → ready old names started k ≡ t
-            → ((m : ℕ) → 1 ≤ m → m < 1 + n → n < m + more → waiting started m ≡ true → isEmpty (keep (mayStart started) (uptoFrom 1 n)) ≡ false)
+            → ((m : ℕ) → 1 ≤ m → m < 1 + n → n < m + more → isLeft old new started m ≡ true → isEmpty (keep (mayStart started) (uptoFrom 1 n)) ≡ false)
             → isEmpty (keep (mayStart started) (uptoFrom 1 n)) ≡ false
         go true e rest = keep-some (mayStart started) 1 n k a b (ap₂ _&&_ w e)
         go false e rest =
@@ -104,7 +105,7 @@ module _ (n : ℕ) (old new : Running) (names : List ℕ) where
 
 pub step-finds : StepFinds
 step-finds n old new names started right free e =
-    let some = lowest-of (waiting n old new names started) 1 n (ap isEmpty (sym (left-is n old new names started)) ∙ e) in
+    let some = lowest-of (isLeft old new started) 1 n (ap isEmpty (sym (left-keeps n old new names started)) ∙ e) in
     ap isEmpty (startable-is n old new names started)
     ∙ find n old new names right free n started (some .number) (some .low) (some .high) (omega (arith, some .low)) (some .passes)
 
@@ -124,24 +125,21 @@ filled [] h = absurd (omega arith)
 filled (x ∷ xs) h = refl
 
 module _ (n : ℕ) (old new : Running) (names : List ℕ) where
-  abbrev waitsFor : List ℕ → ℕ → Bool
-  waitsFor = waiting n old new names
-
   -- load k is the one that a step takes
   pub record Next (started : List ℕ) (k : ℕ) : Type 0 where
     pub low : 1 ≤ k
     pub high : k < 1 + n
-    pub waits : waitsFor started k ≡ true
+    pub is-left : isLeft old new started k ≡ true
     pub may : ready old names started k ≡ true
-    pub lower : (j : ℕ) → 1 ≤ j → j < k → waitsFor started j ≡ true → ready old names started j ≡ false
+    pub lower : (j : ℕ) → 1 ≤ j → j < k → isLeft old new started j ≡ true → ready old names started j ≡ false
 
   pub next-taken : (started : List ℕ) (k : ℕ) → Next started k → startNext n old new names started ≡ started ++ k ∷ []
   unfolding startNext
   next-taken started k h =
       ap (λ xs. started ++ take 1 xs) (startable-is n old new names started)
       ∙ ap (λ xs. started ++ xs)
-      (keep-lowest (λ j. waitsFor started j && ready old names started j) 1 n k (h .low) (h .high) (ap₂ _&&_ (h .waits) (h .may))
-      (λ j a b. off (waitsFor started j) (ready old names started j) (h .lower j a b)))
+      (keep-lowest (λ j. isLeft old new started j && ready old names started j) 1 n k (h .low) (h .high) (ap₂ _&&_ (h .is-left) (h .may))
+      (λ j a b. off (isLeft old new started j) (ready old names started j) (h .lower j a b)))
     where
       off : (t u : Bool) → (t ≡ true → u ≡ false) → (t && u) ≡ false
       off true u h = h refl
@@ -151,7 +149,7 @@ module _ (n : ℕ) (old new : Running) (names : List ℕ) where
   pub record Run (i : ℕ) (xs : List ℕ) : Type 0 where
     pub long : length xs ≡ i
     pub places : (j : ℕ) → j < length xs → Next (take j xs) (getD xs j 0)
-    pub counted : (k : ℕ) → times k xs + times k (left n old new xs) ≡ times k (starting n old new)
+    pub counted : (k : ℕ) → howOften k xs + howOften k (left n old new xs) ≡ howOften k (starting n old new)
     pub remain : length (left n old new xs) + length xs ≡ length (starting n old new)
 
   run-none : Run 0 []
@@ -160,7 +158,7 @@ module _ (n : ℕ) (old new : Running) (names : List ℕ) where
       record {
         long = refl;
         places = λ j l. absurd (omega arith);
-        counted = λ k. zero-add (times k (left n old new [])) ∙ ap (times k) (keep-all (λ j. true) (starting n old new) (λ j. refl));
+        counted = λ k. zero-add (howOften k (left n old new [])) ∙ ap (howOften k) (keep-all (λ j. true) (starting n old new) (λ j. refl));
         remain = omega (arith, ap length (keep-all (λ j. true) (starting n old new) (λ j. refl)));
       }
 
@@ -172,36 +170,36 @@ module _ (n : ℕ) (old new : Running) (names : List ℕ) where
     longer = length-append xs (k ∷ [])
 
     begun : starts old new k ≡ true
-    begun = both-true (starts old new k) (not (any (eqb k) xs)) (next .waits) .0
+    begun = both-true (starts old new k) (not (any (eqb k) xs)) (next .is-left) .0
 
-    waits-other : (j : ℕ) → (j ≡ k → ⊥) → waitsFor more j ≡ waitsFor xs j
-    waits-other j h = ap (λ t. starts old new j && not t) (listed-other xs j k h)
+    left-other : (j : ℕ) → (j ≡ k → ⊥) → isLeft old new more j ≡ isLeft old new xs j
+    left-other j h = ap (λ t. starts old new j && not t) (listed-other xs j k h)
 
-    waits-last : waitsFor more k ≡ false
-    waits-last = ap₂ (λ s t. s && not t) begun (listed-last xs k)
+    left-last : isLeft old new more k ≡ false
+    left-last = ap₂ (λ s t. s && not t) begun (listed-last xs k)
 
     -- how often load j is left
-    left-times : (ys : List ℕ) (j : ℕ) → times j (left n old new ys) ≡ cond (waitsFor ys j) (times j (uptoFrom 1 n)) 0
-    left-times ys j = ap (times j) (left-is n old new names ys) ∙ times-keep j (waitsFor ys) (uptoFrom 1 n)
+    left-often : (ys : List ℕ) (j : ℕ) → howOften j (left n old new ys) ≡ cond (isLeft old new ys j) (howOften j (uptoFrom 1 n)) 0
+    left-often ys j = ap (howOften j) (left-keeps n old new names ys) ∙ often-keep j (isLeft old new ys) (uptoFrom 1 n)
 
-    counted-more : (j : ℕ) → times j more + times j (left n old new more) ≡ times j (starting n old new)
+    counted-more : (j : ℕ) → howOften j more + howOften j (left n old new more) ≡ howOften j (starting n old new)
     counted-more j = go (eqb j k) refl
       where
-        go : (t : Bool) → eqb j k ≡ t → times j more + times j (left n old new more) ≡ times j (starting n old new)
+        go : (t : Bool) → eqb j k ≡ t → howOften j more + howOften j (left n old new more) ≡ howOften j (starting n old new)
         go true e =
             let same : j ≡ k = eqb-true j k e in
-            let once : times j (k ∷ []) ≡ 1 = ap (λ t. length (keepIf t k [])) e in
-            let before : times j (left n old new xs) ≡ 1
-            = left-times xs j ∙ ap₂ (λ t m. cond t m 0) (ap (waitsFor xs) same ∙ next .waits)
-            (times-upto j 1 n (omega (arith, next .low)) (omega (arith, next .high))) in
-            let after : times j (left n old new more) ≡ 0
-            = left-times more j ∙ ap (λ t. cond t (times j (uptoFrom 1 n)) 0) (ap (waitsFor more) same ∙ waits-last) in
-            omega (arith, times-join j xs (k ∷ []), r .counted j)
+            let once : howOften j (k ∷ []) ≡ 1 = ap (λ t. length (keepIf t k [])) e in
+            let before : howOften j (left n old new xs) ≡ 1
+            = left-often xs j ∙ ap₂ (λ t m. cond t m 0) (ap (isLeft old new xs) same ∙ next .is-left)
+            (often-upto j 1 n (omega (arith, next .low)) (omega (arith, next .high))) in
+            let after : howOften j (left n old new more) ≡ 0
+            = left-often more j ∙ ap (λ t. cond t (howOften j (uptoFrom 1 n)) 0) (ap (isLeft old new more) same ∙ left-last) in
+            omega (arith, often-join j xs (k ∷ []), r .counted j)
         go false e =
-            let none : times j (k ∷ []) ≡ 0 = ap (λ t. length (keepIf t k [])) e in
-            let same : times j (left n old new more) ≡ times j (left n old new xs)
-            = left-times more j ∙ ap (λ t. cond t (times j (uptoFrom 1 n)) 0) (waits-other j (eqb-false j k e)) ∙ sym (left-times xs j) in
-            omega (arith, times-join j xs (k ∷ []), r .counted j)
+            let none : howOften j (k ∷ []) ≡ 0 = ap (λ t. length (keepIf t k [])) e in
+            let same : howOften j (left n old new more) ≡ howOften j (left n old new xs)
+            = left-often more j ∙ ap (λ t. cond t (howOften j (uptoFrom 1 n)) 0) (left-other j (eqb-false j k e)) ∙ sym (left-often xs j) in
+            omega (arith, often-join j xs (k ∷ []), r .counted j)
 
     remain-more : length (left n old new more) + length more ≡ length (starting n old new)
     remain-more =
@@ -209,9 +207,9 @@ module _ (n : ℕ) (old new : Running) (names : List ℕ) where
           arith,
           longer,
           r .remain,
-          ap length (left-is n old new names xs),
-          ap length (left-is n old new names more),
-          keep-less (waitsFor xs) (waitsFor more) 1 n k (next .low) (next .high) (next .waits) waits-last waits-other,
+          ap length (left-keeps n old new names xs),
+          ap length (left-keeps n old new names more),
+          keep-less (isLeft old new xs) (isLeft old new more) 1 n k (next .low) (next .high) (next .is-left) left-last left-other,
         )
 
     places-more : (j : ℕ) → j < length more → Next (take j more) (getD more j 0)
@@ -235,14 +233,14 @@ module _ (n : ℕ) (old new : Running) (names : List ℕ) where
     pub next-found : (i : ℕ) (xs : List ℕ) → Run i xs → i < length (starting n old new) → (k : ℕ) × Next xs k
     next-found i xs r l =
         let some = filled (left n old new xs) (omega (arith, r .remain, r .long)) in
-        let low = lowest-of (λ j. waitsFor xs j && ready old names xs j) 1 n
+        let low = lowest-of (λ j. isLeft old new xs j && ready old names xs j) 1 n
         (ap isEmpty (sym (startable-is n old new names xs)) ∙ step-finds n old new names xs right free some) in
-        let both = both-true (waitsFor xs (low .number)) (ready old names xs (low .number)) (low .passes) in (
+        let both = both-true (isLeft old new xs (low .number)) (ready old names xs (low .number)) (low .passes) in (
           low .number,
           record {
             low = low .low;
             high = low .high;
-            waits = both .0;
+            is-left = both .0;
             may = both .1;
             lower = λ j a b w. sym (ap (λ t. t && ready old names xs j) w) ∙ low .lower j a b;
           },
@@ -269,22 +267,22 @@ module _ (n : ℕ) (old new : Running) (names : List ℕ) where
     pub order-length : length order ≡ length (starting n old new)
     order-length = order-run .long
 
-    rearranges : (k : ℕ) → times k order ≡ times k (starting n old new)
+    rearranges : (k : ℕ) → howOften k order ≡ howOften k (starting n old new)
     rearranges k =
         let none : left n old new order ≡ [] = emptied (left n old new order) (omega (arith, order-run .remain, order-run .long)) in
-        omega (arith, order-run .counted k, ap (times k) none)
+        omega (arith, order-run .counted k, ap (howOften k) none)
       where
         emptied : (xs : List ℕ) → length xs ≡ 0 → xs ≡ []
         emptied [] e = refl
         emptied (x ∷ xs) e = absurd (omega arith)
 
-    starting-once : (k : ℕ) → times k (starting n old new) ≤ 1
+    starting-once : (k : ℕ) → howOften k (starting n old new) ≤ 1
     unfolding starting
-    starting-once k = go (starts old new k) (times-keep k (starts old new) (uptoFrom 1 n))
+    starting-once k = go (starts old new k) (often-keep k (starts old new) (uptoFrom 1 n))
       where
-        go : (t : Bool) → times k (keep (starts old new) (uptoFrom 1 n)) ≡ cond t (times k (uptoFrom 1 n)) 0
-            → times k (keep (starts old new) (uptoFrom 1 n)) ≤ 1
-        go true e = omega (arith, times-once k 1 n)
+        go : (t : Bool) → howOften k (keep (starts old new) (uptoFrom 1 n)) ≡ cond t (howOften k (uptoFrom 1 n)) 0
+            → howOften k (keep (starts old new) (uptoFrom 1 n)) ≤ 1
+        go true e = omega (arith, often-once k 1 n)
         go false e = omega arith
 
     comes-behind : new 0 ≡ false → (i : ℕ) → i < length order → starts old new (named names (getD order i 0)) ≡ true
@@ -302,7 +300,7 @@ module _ (n : ℕ) (old new : Running) (names : List ℕ) where
     takes-lowest i j l m h =
         let k = getD order j 0 in
         let later = order-run .places j m in
-        let both = both-true (starts old new k) (not (any (eqb k) (take j order))) (later .waits) in
+        let both = both-true (starts old new k) (not (any (eqb k) (take j order))) (later .is-left) in
         unready old names (take i order) k
         (order-run .places i (omega arith) .lower k (later .low) h
         (ap₂ (λ s t. s && not t) (both .0) (unlisted k (not-true _ (both .1)))))

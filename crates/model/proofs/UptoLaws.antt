@@ -1,4 +1,4 @@
--- Lists over the numbers below a bound, `map f (upto n)`: their elements, and what a loop over them shows turn by turn.
+-- Lists over numbers in a row, `uptoFrom i n` and `map f (upto n)`: their elements, and what a loop over them shows turn by turn.
 -- Assumes nothing.
 use mathlib.Core.Path.{_≡_, refl, sym, ap, ap₂, _∙_, subst}
 use mathlib.Core.Bool.{Bool, true, false, _||_}
@@ -30,17 +30,17 @@ from-suc i zero = refl
 from-suc i (suc n) = ap {B = List ℕ} (λ r. suc i ∷ r) (from-suc (suc i) n)
 
 -- a property of each of i, .., i + n - 1
-pub every-from : (P : ℕ → Type 0) (i n : ℕ) → Every P (uptoFrom i n) → (k : ℕ) → i ≤ k → k < i + n → P k
-every-from P i zero h k a b = absurd (omega arith)
-every-from P i (suc n) h k a b = go (split i k) (λ l. every-from P (suc i) n (h .1) k l (omega arith))
+pub every-at-from : (P : ℕ → Type 0) (i n : ℕ) → Every P (uptoFrom i n) → (k : ℕ) → i ≤ k → k < i + n → P k
+every-at-from P i zero h k a b = absurd (omega arith)
+every-at-from P i (suc n) h k a b = go (split i k) (λ l. every-at-from P (suc i) n (h .1) k l (omega arith))
   where
     go : (i < k) ⊎ (k ≤ i) → (i < k → P k) → P k
     go (inl l) rest = rest l
     go (inr l) rest = let here : i ≡ k = omega arith in subst P here (h .0)
 
-pub every-upto : (P : ℕ → Type 0) (i n : ℕ) → ((k : ℕ) → i ≤ k → k < i + n → P k) → Every P (uptoFrom i n)
-every-upto P i zero h = tt
-every-upto P i (suc n) h = (h i (omega arith) (omega arith), every-upto P (suc i) n (λ k a b. h k (omega arith) (omega arith)))
+pub every-from : (P : ℕ → Type 0) (i n : ℕ) → ((k : ℕ) → i ≤ k → k < i + n → P k) → Every P (uptoFrom i n)
+every-from P i zero h = tt
+every-from P i (suc n) h = (h i (omega arith) (omega arith), every-from P (suc i) n (λ k a b. h k (omega arith) (omega arith)))
 
 module _ {A : Type 0} (f : ℕ → A) where
   length-from : (i n : ℕ) → length (map f (uptoFrom i n)) ≡ n

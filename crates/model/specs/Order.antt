@@ -75,7 +75,7 @@ badName n names k = not (eqb (named names k) 0) && not (within (suc k) n (named 
 unfoldable pub wrongNames : ℕ → List ℕ → Bool
 wrongNames n names = not (eqb (length names) n) || any (badName n names) (uptoFrom 1 n)
 
--- the named load stands in the new sheet
+-- load k names a load, and that stands in the new sheet
 abbrev pub blocked : Running → List ℕ → ℕ → Bool
 blocked new names k = not (eqb (named names k) 0) && not (new (named names k))
 
@@ -142,9 +142,9 @@ loadsOrder n names room old new = checked 0 (first (orderRules n old new names r
 -- "after 13": for the running sheet, then for the new one
 unfoldable pub sheetsOrder : List ℕ → List ℕ → List ℕ → ℕ → Problem → Result OrderData
 sheetsOrder running planned names room b =
-    andThen (sheetChoice running b) (λ old.
-    andThen (sheetChoice planned b) (λ new.
-    loadsOrder (length (b .loads)) names room (runningOn old) (runningOn new)))
+    andThen (sheetChoice running b) (λ oldChoice.
+    andThen (sheetChoice planned b) (λ newChoice.
+    loadsOrder (length (b .loads)) names room (runningOn oldChoice) (runningOn newChoice)))
 
 -- the result of a book, the two sheets and the names, for a buffer with room for so many bytes
 unfoldable pub orderResult : List ℕ → List ℕ → List ℕ → List ℕ → ℕ → Result OrderData
@@ -173,8 +173,8 @@ pub record WritesOrder (result : Result OrderData) (before after : List ℕ) (r 
 -- ---- what every order keeps
 
 -- how often a number stands in a list
-abbrev pub times : ℕ → List ℕ → ℕ
-times k xs = length (keep (eqb k) xs)
+abbrev pub howOften : ℕ → List ℕ → ℕ
+howOften k xs = length (keep (eqb k) xs)
 
 -- load k is not ready: it names a load that stands in the running sheet and is not among those started
 pub record Waits (old : Running) (names started : List ℕ) (k : ℕ) : Type 0 where
@@ -184,8 +184,8 @@ pub record Waits (old : Running) (names started : List ℕ) (k : ℕ) : Type 0 w
 
 pub record Ordered (n : ℕ) (old new : Running) (names order : List ℕ) : Type 0 where
   -- "a rearrangement of exactly the starting loads": each number stands in it as often as among them, which is at most once
-  pub rearranged : (k : ℕ) → times k order ≡ times k (starting n old new)
-  pub once : (k : ℕ) → times k order ≤ 1
+  pub rearranged : (k : ℕ) → howOften k order ≡ howOften k (starting n old new)
+  pub once : (k : ℕ) → howOften k order ≤ 1
   -- a load comes after its named load, where that starts too
   pub behind : (i : ℕ) → i < length order → starts old new (named names (getD order i 0)) ≡ true → Mem (named names (getD order i 0)) (take i order)
   -- "the lowest number first": a lower load that comes later was not ready before
@@ -195,11 +195,11 @@ pub record Ordered (n : ℕ) (old new : Running) (names order : List ℕ) : Type
 pub record OrderKept (book running planned names buffer : List ℕ) (r : OrderAnswer) : Type 0 where
   pub b : Problem
   pub reads : readBook book ≡ done b
-  pub old : Choice
-  pub runs-now : sheetChoice running b ≡ done old
-  pub new : Choice
-  pub runs-next : sheetChoice planned b ≡ done new
-  pub ordered : Ordered (length (b .loads)) (runningOn old) (runningOn new) names (take (r .answer .bytes) buffer)
+  pub oldChoice : Choice
+  pub runs-now : sheetChoice running b ≡ done oldChoice
+  pub newChoice : Choice
+  pub runs-next : sheetChoice planned b ≡ done newChoice
+  pub ordered : Ordered (length (b .loads)) (runningOn oldChoice) (runningOn newChoice) names (take (r .answer .bytes) buffer)
   -- the numbers of loads that start and that stop
-  pub starts : r .starts ≡ length (starting (length (b .loads)) (runningOn old) (runningOn new))
-  pub stops : r .stops ≡ length (starting (length (b .loads)) (runningOn new) (runningOn old))
+  pub starts : r .starts ≡ length (starting (length (b .loads)) (runningOn oldChoice) (runningOn newChoice))
+  pub stops : r .stops ≡ length (starting (length (b .loads)) (runningOn newChoice) (runningOn oldChoice))

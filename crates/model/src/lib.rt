@@ -6,7 +6,7 @@ ghost use Rattle.model.specs.Answers.{successAnswer, refusalAnswer};
 ghost use Rattle.model.specs.Values.{loadValue, freshBook};
 ghost use mathlib.Core.List.{[]};
 
-// Why a call gives no result; specs/Refusals.antt has the number of each, and document 01's word.
+// Why a call gives no result; specs/Refusals.antt has the number of each, and document 01's word or document 02's request.
 pub enum Refusal {
     Unterminated,
     NotHex,

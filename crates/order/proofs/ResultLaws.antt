@@ -23,7 +23,7 @@ use Rattle.model.proofs.MaskLaws.{starts-counted}
 use Rattle.model.proofs.StartLaws.{names-all, order-length}
 use Rattle.starts.specs.Places.{runningIn, NamesInside}
 use Rattle.starts.proofs.PlaceLaws.{names-inside}
-use Rattle.order.specs.Started.{refusedOrder, Unrefused}
+use Rattle.order.specs.Unrefused.{refusedOrder, Unrefused}
 
 -- of equal results the same is written
 pub order-same : {x y : Result OrderData} {before after : List ℕ} {a : OrderAnswer} → x ≡ y → WritesOrder x before after a → WritesOrder y before after a

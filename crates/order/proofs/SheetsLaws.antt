@@ -33,9 +33,6 @@ module _ (b : Problem) (valid : ValidBook b) where
   running-is : (picks : List ℕ) → Picked b picks → runningIn n picks ≡ runningOn (choiceOf b picks)
   running-is picks picked = λ i k. each k i
     where
-      c : Choice
-      c = choiceOf b picks
-
       at : (k : ℕ) → (k < n) ⊎ (n ≤ k) → runningIn n picks (suc k) ≡ runningOn (choiceOf b picks) (suc k)
       at k (inl l) = runs-at n picks k l ∙ ap (λ x. not (eqb x 0)) (sym (number-at b picks valid picked k l))
       at k (inr l) =

@@ -19,12 +19,12 @@ use Rattle.model.specs.Answers.{bytesOnly, bufferAfter}
 use Rattle.model.specs.Order.{Running, starts, ready, startedAfter, startOrder}
 use Rattle.model.proofs.IntegerLaws.{split}
 use Rattle.model.proofs.ListLaws.{both-true, or-false, or-true}
-use Rattle.model.proofs.StartLaws.{waiting, listed-other, listed-last, Next, next-taken, Run, next-found, run-after}
+use Rattle.model.proofs.StartLaws.{isLeft, listed-other, listed-last, Next, next-taken, Run, next-found, run-after}
 use Rattle.hex.specs.Written.{written}
 use Rattle.hex.proofs.WrittenLaws.{written-none, write-on, write-byte, written-start}
 use Rattle.starts.specs.Places.{runningIn, startsAt, served, mayStartAt, Found}
 use Rattle.starts.proofs.PlaceLaws.{runs-at, names-inside}
-use Rattle.order.specs.Started.{Unrefused}
+use Rattle.order.specs.Unrefused.{Unrefused}
 
 module _ (running planned names : List ℕ) where
   abbrev n : ℕ
@@ -60,7 +60,7 @@ module _ (running planned names : List ℕ) where
       started = after i
 
       -- what the code asks at a place is what the definition asks of its load
-      left-is : (k : ℕ) → k < length names → startsAt on planned k ≡ waiting n old new names started (suc k)
+      left-is : (k : ℕ) → k < length names → startsAt on planned k ≡ isLeft old new started (suc k)
       left-is k l =
           parted (old (suc k)) (any (eqb (suc k)) started) (eqb (getD on k 0) 0) (not (eqb (getD planned k 0) 0)) (t .tracks k l)
           ∙ ap (λ u. (not (old (suc k)) && u) && not (any (eqb (suc k)) started)) (sym (runs-at n planned k l))
@@ -87,16 +87,16 @@ module _ (running planned names : List ℕ) where
               ∙ t .tracks m h
               ∙ sym (ap (λ s. s || old (suc m) || any (eqb (suc m)) started) (ne-eqb (suc m) 0 (λ e. omega arith)))
 
-      may-is : (k : ℕ) → k < length names → mayStartAt on planned (getD names k 0) k ≡ (waiting n old new names started (suc k) && ready old names started (suc k))
+      may-is : (k : ℕ) → k < length names → mayStartAt on planned (getD names k 0) k ≡ (isLeft old new started (suc k) && ready old names started (suc k))
       may-is k l = ap₂ _&&_ (left-is k l) (ready-is k l)
 
       -- the load that is found is the one that a step takes
       found-next : (k : ℕ) → Found on planned names k → k < length names → Next n old new names started (suc k)
       found-next k f l =
-          let both = both-true (waiting n old new names started (suc k)) (ready old names started (suc k)) (sym (may-is k l) ∙ f .may l) in
-          record { low = omega arith; high = omega arith; waits = both .0; may = both .1; lower = lower }
+          let both = both-true (isLeft old new started (suc k)) (ready old names started (suc k)) (sym (may-is k l) ∙ f .may l) in
+          record { low = omega arith; high = omega arith; is-left = both .0; may = both .1; lower = lower }
         where
-          lower : (j : ℕ) → 1 ≤ j → j < suc k → waiting n old new names started j ≡ true → ready old names started j ≡ false
+          lower : (j : ℕ) → 1 ≤ j → j < suc k → isLeft old new started j ≡ true → ready old names started j ≡ false
           lower zero a b w = absurd (omega arith)
           lower (suc j) a b w =
               sym (ap (λ u. u && ready old names started (suc j)) w) ∙ sym (may-is j (omega arith)) ∙ f .before j (le-of-suc-le-suc b)
@@ -114,7 +114,7 @@ module _ (running planned names : List ℕ) where
             go (inr l) (zero, next) = absurd (omega (arith, next .low))
             go (inr l) (suc j, next) =
                 let here : j < length names = omega (arith, next .high) in
-                absurd (false≢true (sym (f .before j (omega arith)) ∙ may-is j here ∙ ap₂ _&&_ (next .waits) (next .may)))
+                absurd (false≢true (sym (f .before j (omega arith)) ∙ may-is j here ∙ ap₂ _&&_ (next .is-left) (next .may)))
 
         -- a turn more
         module _ (k : ℕ) (f : Found on planned names k) where
@@ -130,7 +130,7 @@ module _ (running planned names : List ℕ) where
 
           runs : not (eqb (getD planned k 0) 0) ≡ true
           runs =
-              let begun = both-true (starts old new (suc k)) (not (any (eqb (suc k)) started)) (next .waits) .0 in
+              let begun = both-true (starts old new (suc k)) (not (any (eqb (suc k)) started)) (next .is-left) .0 in
               sym (runs-at n planned k inside) ∙ both-true (not (old (suc k))) (new (suc k)) begun .1
 
           tracked : (j : ℕ) → j < length names

@@ -1,5 +1,5 @@
-// The order of starting: the loads that start from the running sheet to the new one, each after the load that it names, or refusals 13, 15, 16 and 11; the
-// book's own refusals come first.
+// The order of starting: the loads that start when the new sheet follows the running one, each after the load that it names where that starts too, or
+// refusals 13, 15, 16 and 11; the book's own refusals come first.
 use model::Answer;
 use model::Book;
 use model::OrderAnswer;
@@ -13,7 +13,7 @@ ghost use Rattle.model.specs.Order.{startOrder, loadsOrder, sheetsOrder, orderR
 ghost use Rattle.model.specs.Refusals.{done};
 ghost use Rattle.model.specs.Values.{Held, problemOf};
 ghost use Rattle.starts.specs.Places.{runningIn};
-ghost use Rattle.order.specs.Started.{refusedOrder, Unrefused};
+ghost use Rattle.order.specs.Unrefused.{refusedOrder, Unrefused};
 
 fn refused(r: Refusal) -> OrderAnswer
     ensures { λ a. ⌜ a ≡ refusedOrder r ⌝ }

@@ -13,7 +13,7 @@ use lib.ListN.{getD}
 use Rattle.model.specs.Grid.{Slot}
 use Rattle.model.specs.Cells.{Key, join, joinUpto, admitsAll}
 use Rattle.model.specs.Index.{gridFrom}
-use Rattle.model.proofs.OrderLaws.{join-none, join-assoc, lt-of-not}
+use Rattle.model.proofs.KeyLaws.{join-none, join-assoc, lt-of-not}
 use Rattle.model.proofs.CellLaws.{upto-none}
 use Rattle.table.specs.declared.Cell.{Cell}
 use Rattle.table.specs.Table.{cellAt, keyIf, keyOf}

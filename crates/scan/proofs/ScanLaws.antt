@@ -16,7 +16,7 @@ use Rattle.model.specs.Book.{Power, Problem}
 use Rattle.model.specs.Grid.{Slot, slotsFrom, slotsOf, bestAdmitted}
 use Rattle.model.specs.Cells.{Key, join, joinUpto, admitsAll, cellBest}
 use Rattle.model.specs.Index.{columnCount, gridFrom}
-use Rattle.model.proofs.OrderLaws.{join-none, join-assoc}
+use Rattle.model.proofs.KeyLaws.{join-none, join-assoc}
 use Rattle.model.proofs.IndexLaws.{gridAt}
 use Rattle.model.proofs.RecurrenceLaws.{key?}
 use Rattle.model.proofs.TableLaws.{plan-cells}

@@ -30,7 +30,7 @@ mask-more picks n k some few =
     ∙ ap₂ (λ t m. cond (t && not (eqb (getD picks (k - 1) 0) 0)) 1 0 + 2 * maskFrom (runningIn n picks) (suc m) (n - k))
     (lt-ltb (k - 1) n (omega arith)) next
 
--- of two masks of 24 bits, and of 32 bits with the upper ones unset
+-- of masks of 24 bits the complement may be taken in 32
 pub wide-and-not : (x y : ℕ) → x < 2 ^ mostLoads → y < 2 ^ mostLoads → bitAnd x (2 ^ 32 - 1 - y) ≡ andNot x y
 unfolding andNot
 wide-and-not x y hx hy =
@@ -39,7 +39,7 @@ wide-and-not x y hx hy =
     ∙ and-mod x (2 ^ 32 - 1 - y) mostLoads
     ∙ ap₂ bitAnd (mod-eq-of-lt hx) cut
 
--- ---- load k + 1 stands at place k
+-- ---- load k + 1 is at place k
 
 -- a load that runs
 pub runs-at : (n : ℕ) (picks : List ℕ) (k : ℕ) → k < n → runningIn n picks (suc k) ≡ not (eqb (getD picks k 0) 0)
@@ -51,7 +51,7 @@ starts-are n on planned k l =
     ap₂ (λ s t. not s && t) (runs-at n on k l) (runs-at n planned k l)
     ∙ ap (λ t. t && not (eqb (getD planned k 0) 0)) (not-not (eqb (getD on k 0) 0))
 
--- a name of which the load stands
+-- a name whose load stands in the new sheet
 blocked-is : (n : ℕ) (planned names : List ℕ) (k : ℕ) → getD names k 0 ≤ n → blocked (runningIn n planned) names (suc k) ≡ not (served planned (getD names k 0))
 blocked-is n planned names k l = go (getD names k 0) l
   where

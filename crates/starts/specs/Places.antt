@@ -1,4 +1,4 @@
--- The loads that run, by the numbers c in an array, and the load that is started next. Load k + 1 stands at place k.
+-- The loads that run, by the numbers c in an array, and the load that is started next. Load k + 1 is at place k.
 use Prim.Native.Nat.{ℕ, zero, suc, _-_, _<_, _≤_}
 use mathlib.Core.Path.{_≡_}
 use mathlib.Core.Bool.{Bool, true, false, not, _&&_, _||_}

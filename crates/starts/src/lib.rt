@@ -1,5 +1,5 @@
-// The loads that start from one choice to another: their masks and how many they are, the names that are refused (15 and 16), and the load that is started
-// next. A choice is an array of the loads' numbers c; load k + 1 stands at place k.
+// The loads that start when one choice follows another: their masks and how many they are, the names that are refused (15 and 16), and the load that is
+// started next. A choice is an array of the loads' numbers c; load k + 1 is at place k.
 use model::Book;
 ghost use mathlib.Core.Path.{_≡_};
 ghost use Prim.Native.Nat.{_^_, _≤_, _<_};
@@ -24,7 +24,7 @@ fn running_mask(picks: [usize; Book::LOADS], count: usize) -> u32
 }
 
 // How many loads are in one mask and not in another.
-fn ones_apart(x: u32, y: u32) -> u64
+fn ones_and_not(x: u32, y: u32) -> u64
     requires { ⌜ x < 2 ^ mostLoads ⌝ }
     requires { ⌜ y < 2 ^ mostLoads ⌝ }
     ensures { λ r. ⌜ r ≡ ones (andNot x y) ⌝ }
@@ -39,7 +39,7 @@ pub fn start_count(old: [usize; Book::LOADS], new: [usize; Book::LOADS], count: 
 {
     let old = running_mask(old, count);
     let new = running_mask(new, count);
-    ones_apart(new, old)
+    ones_and_not(new, old)
 }
 
 // A name other than 0 that is not the number of a load above load k + 1.
@@ -83,7 +83,7 @@ fn starts_at(on: [usize; Book::LOADS], planned: [usize; Book::LOADS], k: usize) 
     planned[k] != 0
 }
 
-// No load is named, or the one that is runs.
+// No load is named, or the named load runs.
 fn served(on: [usize; Book::LOADS], name: usize) -> bool
     requires { ⌜ name ≤ mostLoads ⌝ }
     ensures { λ r. ⌜ r ≡ served on name ⌝ }

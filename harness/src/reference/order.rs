@@ -14,13 +14,13 @@ pub fn names_are_right(names: &[u8], loads: usize) -> bool {
 }
 
 /// Some load starts and names a load that stands in the new choice.
-pub fn some_wait_for_ever(old: &[usize], new: &[usize], names: &[u8]) -> bool {
+pub fn some_named_load_stands(old: &[usize], new: &[usize], names: &[u8]) -> bool {
     starting(old, new)
         .filter_map(|k| usize::from(names[k - 1]).checked_sub(1))
         .any(|named| new[named] == 0)
 }
 
-/// The loads that start: each time the lowest that names none, or one that runs by then.
+/// The loads that start: each time the lowest of those that name none, or name one that runs by then.
 pub fn of(old: &[usize], new: &[usize], names: &[u8]) -> Vec<u8> {
     let mut turning: BTreeSet<usize> = (1..=old.len()).filter(|k| old[k - 1] != 0).collect();
     turning.insert(0);

@@ -15,8 +15,8 @@ running-mask-requires c κs = search needs
 running-mask-requires-2 : tie.Need-running-mask-requires-2
 running-mask-requires-2 c κs = search needs
 
-ones-apart-requires : tie.Need-ones-apart-requires
-ones-apart-requires c κs =
+ones-and-not-requires : tie.Need-ones-and-not-requires
+ones-and-not-requires c κs =
     let s = c .before .before in
     let a = s .args in (
       omega (arith, c .running-mask2 .ensures, mask-small (a .count) (runningIn (a .count) (a .new)) (s .pre)),
@@ -25,8 +25,8 @@ ones-apart-requires c κs =
 
 returns : tie.Need-returns
 unfolding startCount
-returns c = c .ones-apart .ensures ∙ ap₂ (λ x y. ones (andNot x y)) (c .before .running-mask2 .ensures) (c .before .before .running-mask .ensures)
+returns c = c .ones-and-not .ensures ∙ ap₂ (λ x y. ones (andNot x y)) (c .before .running-mask2 .ensures) (c .before .before .running-mask .ensures)
 
 pub start-count-spec : {M : Type 1} → statement M
 start-count-spec =
-    tie.close (tie.spec running-mask-requires running-mask-requires-2 ones-apart-requires returns)
+    tie.close (tie.spec running-mask-requires running-mask-requires-2 ones-and-not-requires returns)

@@ -1,4 +1,4 @@
--- `starts::ones_apart` meets its contract: in 24 bits the complement is the same in 32. Assumes nothing.
+-- `starts::ones_and_not` meets its contract: the complement in 32 bits agrees in the lower 24. Assumes nothing.
 use mathlib.Core.Path.{ap}
 use Prim.Native.Nat.{_-_}
 use native.Mathlib.Nat.{lt-of-le-of-lt}
@@ -7,8 +7,8 @@ use lib.Bits.{bitAnd, and-le-l}
 use lib.Count.{ones, ones-le}
 use Rattle.model.specs.Bounds.{mostLoads}
 use Rattle.starts.proofs.PlaceLaws.{wide-and-not}
-use Rattle.starts.proofs.ones_apart.Statement.{statement}
-use Rattle.starts.proofs.ones_apart.Tie as tie
+use Rattle.starts.proofs.ones_and_not.Statement.{statement}
+use Rattle.starts.proofs.ones_and_not.Tie as tie
 
 cast-result : tie.Need-cast-result
 cast-result c =
@@ -18,5 +18,5 @@ cast-result c =
 returns : tie.Need-returns
 returns c = ap ones (wide-and-not (c .args .x) (c .args .y) (c .pre .0) (c .pre .1))
 
-pub ones-apart-spec : {M : Type 1} → statement M
-ones-apart-spec = tie.close (tie.spec cast-result returns)
+pub ones-and-not-spec : {M : Type 1} → statement M
+ones-and-not-spec = tie.close (tie.spec cast-result returns)
