@@ -15,6 +15,7 @@ ghost use Rattle.model.specs.Values.{Held, problemOf};
 ghost use Rattle.starts.specs.Places.{runningIn};
 ghost use Rattle.order.specs.Unrefused.{refusedOrder, Unrefused};
 
+// A refusal with line 0.
 fn refused(r: Refusal) -> OrderAnswer
     ensures { λ a. ⌜ a ≡ refusedOrder r ⌝ }
 {
