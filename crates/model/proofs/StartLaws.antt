@@ -138,7 +138,7 @@ module _ (n : ℕ) (old new : Running) (names : List ℕ) where
   next-taken started k h =
       ap (λ xs. started ++ take 1 xs) (startable-is n old new names started)
       ∙ ap (λ xs. started ++ xs)
-      (keep-lowest (λ j. isLeft old new started j && ready old names started j) 1 n k (h .low) (h .high) (ap₂ _&&_ (h .is-left) (h .may))
+      (keep-lowest (mayStart n old new names started) 1 n k (h .low) (h .high) (ap₂ _&&_ (h .is-left) (h .may))
       (λ j a b. off (isLeft old new started j) (ready old names started j) (h .lower j a b)))
     where
       off : (t u : Bool) → (t ≡ true → u ≡ false) → (t && u) ≡ false
@@ -233,7 +233,7 @@ module _ (n : ℕ) (old new : Running) (names : List ℕ) where
     pub next-found : (i : ℕ) (xs : List ℕ) → Run i xs → i < length (starting n old new) → (k : ℕ) × Next xs k
     next-found i xs r l =
         let some = filled (left n old new xs) (omega (arith, r .remain, r .long)) in
-        let low = lowest-of (λ j. isLeft old new xs j && ready old names xs j) 1 n
+        let low = lowest-of (mayStart n old new names xs) 1 n
         (ap isEmpty (sym (startable-is n old new names xs)) ∙ step-finds n old new names xs right free some) in
         let both = both-true (isLeft old new xs (low .number)) (ready old names xs (low .number)) (low .passes) in (
           low .number,
