@@ -20,7 +20,8 @@ use Rattle.model.proofs.RaisedLaws.{raised-abs}
 use Rattle.model.proofs.HeldLaws.{held-count, held-limit}
 use Rattle.sums.specs.declared.Sums.{Sums}
 use Rattle.sums.specs.Sums.{sumsValue}
-use Rattle.sums.proofs.SumsLaws.{reactive-sum, sums-active, sums-reactive}
+use Rattle.model.proofs.SumLaws.{sum-small}
+use Rattle.sums.proofs.SumsLaws.{sums-active, sums-reactive}
 
 -- the limits from slot s on are kept
 abbrev pub keepsFrom : Problem → ℕ → Choice → Bool
@@ -53,7 +54,7 @@ entry-kept book h sums c is small sized s l r e =
     let n-is : book .count ≡ length c = held-count book h ∙ sym sized in
     let p-is : getD (sums .actives) s 0 ≡ sumIn s c .p = ap (λ (v : Sums). getD (v .actives) s 0) is ∙ sums-active c s l in
     let abs-is : (getD (sums .reactives) s 0 - 32768 * book .count) + (32768 * book .count - getD (sums .reactives) s 0) ≡ natAbs (sumIn s c .q)
-    = ap₂ (λ q m. (q - 32768 * m) + (32768 * m - q)) q-is n-is ∙ raised-abs (length c) (sumIn s c .q) (reactive-sum c small s) in
+    = ap₂ (λ q m. (q - 32768 * m) + (32768 * m - q)) q-is n-is ∙ raised-abs (length c) (sumIn s c .q) (sum-small c small s .reactive) in
     sym
     (e
     ∙ ap₂ (λ x y. leb (square x + y) (square (getD (book .limits) s 0))) p-is (ap square abs-is ∙ sym (square-abs (sumIn s c .q)))

@@ -12,12 +12,11 @@ use lib.ListN.{length, getD, take, drop, set, length-append, length-drop}
 use lib.Seq.{take-length, drop-length}
 use Rattle.model.specs.Lists.{upto, uptoFrom, concat}
 use Rattle.model.specs.Frames.{digits, unsigned}
-use Rattle.model.specs.Book.{Setting}
+use Rattle.model.specs.Book.{Setting, Problem}
 use Rattle.model.specs.Choice.{Choice, worthOf, sumIn, noSetting}
-use Rattle.model.specs.Grid.{slotsFrom}
-use Rattle.model.specs.Sheet.{lf, numbersOf, firstLine, slotLine, slotLines}
+use Rattle.model.specs.Sheet.{lf, numbersOf, firstLine, SlotSum, slotSums, slotLine, slotLines}
 use Rattle.model.proofs.ListLaws.{length-concat}
-use Rattle.model.proofs.UptoLaws.{upto-last, suc-across}
+use Rattle.model.proofs.UptoLaws.{upto-last, suc-across, length-upto, getD-upto}
 use Rattle.model.proofs.FrameLaws.{length-digits}
 use Rattle.model.proofs.IntegerLaws.{split, sub-pos, sub-neg}
 use Rattle.hex.specs.Written.{written}
@@ -148,7 +147,7 @@ slots-go l l′ l″ actives words limits p s n e f q few h =
     (rw length-slots-bytes (omega arith)) (rw length-slot-bytes (omega arith))
     ∙ ap (written l 0) (sym (slots-more actives words limits s))
 
--- ---- the slot lines after the first line
+-- ---- lines after the first line
 
 -- a write from the start of the part after a place
 rest-written : (l l′ xs : List ℕ) (a : ℕ) → a ≤ length l → l′ ≡ written (take (length l - a) (drop a l)) 0 xs
@@ -157,14 +156,10 @@ rest-written l l′ xs a h e =
     let n : length l - a ≡ length (drop a l) = sym (length-drop a l) in
     rw (e, n, take-length, drop-length, append-nil) (written-part l a 0 xs h ∙ ap (λ k. written l k xs) (add-zero a))
 
-pub sheet-written : (l l₁ l₂ picks actives words limits : List ℕ) (p slots n worth trials : ℕ) → l₁ ≡ written l 0 (firstBytes picks n worth trials)
-    → l₂ ≡ written (take (length l₁ - p) (drop p l₁)) 0 (slotsBytes actives words limits slots) → p ≡ 19 + 2 * n → 19 + 2 * n + 23 * slots ≤ length l
-    → take p l₁ ++ (l₂ ++ drop (length l₁ - p) (drop p l₁)) ≡ written l 0 (firstBytes picks n worth trials ++ slotsBytes actives words limits slots)
-sheet-written l l₁ l₂ picks actives words limits p slots n worth trials e f q h =
-    let first = firstBytes picks n worth trials in
-    let rest = slotsBytes actives words limits slots in
-    let i : length first ≡ 19 + 2 * n = length-first-bytes picks n worth trials in
-    let j : length rest ≡ 23 * slots = length-slots-bytes actives words limits slots in
+-- after the first line, or any bytes from the start
+pub then-written : (l l₁ l₂ first rest : List ℕ) (p : ℕ) → l₁ ≡ written l 0 first → l₂ ≡ written (take (length l₁ - p) (drop p l₁)) 0 rest
+    → p ≡ length first → p + length rest ≤ length l → take p l₁ ++ (l₂ ++ drop (length l₁ - p) (drop p l₁)) ≡ written l 0 (first ++ rest)
+then-written l l₁ l₂ first rest p e f q h =
     let k : length l₁ ≡ length l = ap length e ∙ length-written l 0 first (omega arith) in
     rest-written l₁ l₂ rest p (omega arith) f ∙ write-on l l₁ 0 p first rest e (omega arith) (omega arith)
 
@@ -194,31 +189,30 @@ module _ (c : Choice) (picks : List ℕ) (n : ℕ) (count : length c ≡ n) (h :
   unfolding firstBytes firstLine
   first-is t = rw numbers-are
 
--- a slot line, and those of the slots of a book's limits
-pub slot-is : (c : Choice) (s active word limit limit′ : ℕ) → active ≡ sumIn s c .p → word ≡ unsigned 32 (sumIn s c .q) → limit′ ≡ limit
-    → slotLine limit (sumIn s c) ≡ slotBytes active word limit′
+-- a slot line, and those of a book's slots
+slot-is : (x : SlotSum) (active word limit : ℕ) → active ≡ x .sum .p → word ≡ unsigned 32 (x .sum .q) → limit ≡ x .limit
+    → slotLine x ≡ slotBytes active word limit
 unfolding slotLine slotBytes
-slot-is c s active word limit limit′ p q l = rw (p, q, l)
+slot-is x active word limit p q l = rw (p, q, l)
 
-module _ (n d : ℕ) (c : Choice) (actives words limits′ : List ℕ) where
-  slots-from : (i : ℕ) (limits : List ℕ) → ((s : ℕ) → i ≤ s → s < i + length limits → getD actives s 0 ≡ sumIn s c .p)
-      → ((s : ℕ) → i ≤ s → s < i + length limits → getD words s 0 ≡ unsigned 32 (sumIn s c .q))
-      → ((s : ℕ) → s < length limits → getD limits′ (i + s) 0 ≡ getD limits s 0)
-      → slotLines (slotsFrom n d i limits) c ≡ concat (map (slotAt actives words limits′) (uptoFrom i (length limits)))
-  unfolding slotLines
-  slots-from i [] ps qs ls = refl
-  slots-from i (x ∷ limits) ps qs ls =
-      ap₂ {C = List ℕ} (λ a r. a ++ r)
-      (slot-is c i (getD actives i 0) (getD words i 0) x (getD limits′ i 0) (ps i (omega arith) (omega arith)) (qs i (omega arith) (omega arith))
-      (ap (λ j. getD limits′ j 0) (sym (add-zero i)) ∙ ls 0 (omega arith)))
-      (slots-from (suc i) limits (λ s l m. ps s (omega arith) (omega arith)) (λ s l m. qs s (omega arith) (omega arith))
-      (λ s l. ap (λ j. getD limits′ j 0) (sym (suc-across i s)) ∙ ls (suc s) (omega arith)))
+module _ (b : Problem) (c : Choice) (actives words limits : List ℕ) where
+  abbrev slots : ℕ
+  slots = length (b .limits)
 
-  pub slots-are : (limits : List ℕ) → ((s : ℕ) → s < length limits → getD actives s 0 ≡ sumIn s c .p)
-      → ((s : ℕ) → s < length limits → getD words s 0 ≡ unsigned 32 (sumIn s c .q))
-      → ((s : ℕ) → s < length limits → getD limits′ s 0 ≡ getD limits s 0)
-      → slotLines (slotsFrom n d 0 limits) c ≡ slotsBytes actives words limits′ (length limits)
-  unfolding slotsBytes
-  slots-are limits ps qs ls =
-      slots-from 0 limits (λ s l m. ps s (omega arith)) (λ s l m. qs s (omega arith))
-      (λ s l. ap (λ j. getD limits′ j 0) (zero-add s) ∙ ls s l)
+  abbrev sumAt : ℕ → SlotSum
+  sumAt s = record { sum = sumIn s c; limit = getD (b .limits) s 0 }
+
+  pub slots-are : ((s : ℕ) → s < slots → getD actives s 0 ≡ sumIn s c .p) → ((s : ℕ) → s < slots → getD words s 0 ≡ unsigned 32 (sumIn s c .q))
+      → ((s : ℕ) → s < slots → getD limits s 0 ≡ getD (b .limits) s 0) → slotsBytes actives words limits slots ≡ slotLines (slotSums b c)
+  unfolding slotsBytes slotLines slotSums
+  slots-are ps qs ls =
+      sym
+      (pieces-are (slotAt actives words limits) slotLine (sumAt 0) (map sumAt (upto slots)) 0 at
+      ∙ ap (λ n. concat (map (slotAt actives words limits) (upto n))) (length-upto sumAt slots))
+    where
+      at : (s : ℕ) → s < length (map sumAt (upto slots)) → slotLine (getD (map sumAt (upto slots)) s (sumAt 0)) ≡ slotAt actives words limits (0 + s)
+      at s h =
+          let l : s < slots = omega (arith, length-upto sumAt slots) in
+          ap slotLine (getD-upto sumAt slots s (sumAt 0) l)
+          ∙ slot-is (sumAt s) (getD actives s 0) (getD words s 0) (getD limits s 0) (ps s l) (qs s l) (ls s l)
+          ∙ ap (slotAt actives words limits) (sym (zero-add s))

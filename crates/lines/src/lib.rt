@@ -1,7 +1,7 @@
 // The writers of a sheet's lines: digits and an LF, put into a lent buffer.
 use model::Book;
 ghost use mathlib.Core.Path.{_≡_};
-ghost use mathlib.Core.List.{_++_, map};
+ghost use mathlib.Core.List.{map};
 ghost use Prim.Native.Nat.{ℕ, _+_, _*_, _^_, _≤_, _<_};
 ghost use lib.IntN.{subℕ};
 ghost use lib.ListN.{length, getD};
@@ -24,7 +24,13 @@ fn write_numbers(buf: &mut [u8], at: usize, picks: [usize; Book::LOADS], count: 
 }
 
 // Writes the first line, of a sheet for `count` loads, from the start on.
-fn write_first(buf: &mut [u8], count: usize, picks: [usize; Book::LOADS], worth: u64, trials: u64)
+pub fn write_first(
+    buf: &mut [u8],
+    count: usize,
+    picks: [usize; Book::LOADS],
+    worth: u64,
+    trials: u64,
+)
     requires { ⌜ (count ≤ mostLoads) × (19 + 2 * count ≤ length (now buf)) ⌝ }
     ensures { λ _. ⌜ now (buf .exit) ≡ written (now (buf .entry)) 0 (firstBytes picks count worth trials) ⌝ }
 {
@@ -47,8 +53,8 @@ fn write_slot(part: &mut [u8], at: usize, active: u64, word: u64, limit: u64)
     part[at + 22] = 10;
 }
 
-// Writes the slot lines into the part of the sheet buffer after the first line.
-fn write_slots(
+// Writes the slot lines from the start on.
+pub fn write_slots(
     part: &mut [u8],
     slots: usize,
     actives: [u64; Book::SLOTS],
@@ -85,24 +91,4 @@ pub fn words_of(reactives: [u64; Book::SLOTS], base: u64) -> [u64; Book::SLOTS]
         s += 1;
     }
     words
-}
-
-// Writes the whole sheet.
-pub fn write_lines(
-    sheet: &mut [u8],
-    slots: usize,
-    count: usize,
-    picks: [usize; Book::LOADS],
-    worth: u64,
-    trials: u64,
-    actives: [u64; Book::SLOTS],
-    words: [u64; Book::SLOTS],
-    limits: [u64; Book::SLOTS],
-)
-    requires { ⌜ (slots ≤ mostSlots) × (count ≤ mostLoads) × (19 + 2 * count + 23 * slots ≤ length (now sheet)) ⌝ }
-    ensures { λ _. ⌜ now (sheet .exit) ≡ written (now (sheet .entry)) 0 (firstBytes picks count worth trials ++ slotsBytes actives words limits slots) ⌝ }
-{
-    write_first(sheet, count, picks, worth, trials);
-    let first = 19 + 2 * count;
-    write_slots(&mut sheet[first..], slots, actives, words, limits);
 }

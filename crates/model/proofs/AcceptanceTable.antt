@@ -20,7 +20,7 @@ use Rattle.model.specs.Book.{Problem, optionStart, headerRules, someExce
 use Rattle.model.specs.Choice.{square}
 use Rattle.model.specs.Grid.{stepFor, slotsOf, floorDiv, bestAdmitted, plan}
 use Rattle.model.specs.Trials.{cells, sameℤ, reachedCount, trialsUpto, trials}
-use Rattle.model.specs.Sheet.{lf, numbersOf, firstLine, slotLine, slotLines, sheetBytes}
+use Rattle.model.specs.Sheet.{lf, numbersOf, firstLine, slotSums, slotLine, slotLines, sheetBytes}
 use Rattle.model.specs.Calls.{sizeRules, fittingBook, choiceOr, planSheet, plannerResult}
 use Rattle.model.specs.Quick.{optionOne, sizeOf, takeIfFits, quickChoice, quickSheet, quickResult}
 use Rattle.model.specs.Program.{refusalLine, printed, programOutput}
@@ -245,7 +245,7 @@ rows =
 pub table-holds : all holds rows ≡ true
 unfolding holds rows programOutput refusalLine plannerResult planSheet fittingBook sizeRules
     readBook readLoads headerRules loadRules someExceeds optionStart first isDigit digitValue digit valueFrom field digits signed unsigned lineLength
-    slotsOf plan bestAdmitted cells trials reachedCount sheetBytes firstLine slotLines slotLine numbersOf quickResult quickSheet quickChoice takeIfFits sizeOf optionOne
+    slotsOf plan bestAdmitted cells trials reachedCount sheetBytes firstLine slotLines slotSums slotLine numbersOf quickResult quickSheet quickChoice takeIfFits sizeOf optionOne
     chargeResult sheetCharge choiceCharge chargeOf rounded sheetChoice
     orderResult sheetsOrder loadsOrder starting runningMask andNot startCount wrongNames someBlocked left ready startNext startedAfter startOrder ones onesIn
 table-holds = refl

@@ -24,6 +24,7 @@ pub mod QuickLaws
 pub mod DemandLaws
 pub mod ValueLaws
 pub mod RaisedLaws
+pub mod SumLaws
 pub mod HeldLaws
 pub mod RoundingLaws
 pub mod ChargeLaws

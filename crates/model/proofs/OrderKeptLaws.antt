@@ -10,8 +10,9 @@ use Rattle.model.specs.declared.OrderAnswer.{OrderAnswer}
 use Rattle.model.specs.Bounds.{mostLoads}
 use Rattle.model.specs.Refusals.{Result, refused, done, first}
 use Rattle.model.specs.Book.{readBook}
+use Rattle.model.specs.Choice.{runningOn}
 use Rattle.model.specs.SheetReader.{sheetChoice}
-use Rattle.model.specs.Order.{runningOn, startOrder, orderRules, OrderData, orderData, loadsOrder, sheetsOrder, orderResult, WritesOrder, Ordered, OrderKept}
+use Rattle.model.specs.Order.{startOrder, orderRules, OrderData, orderData, loadsOrder, sheetsOrder, orderResult, WritesOrder, Ordered, OrderKept}
 use Rattle.model.proofs.RefusalLaws.{done-same, checked-done, then-done, first-passed, number-some}
 use Rattle.model.proofs.ValidLaws.{book-valid}
 use Rattle.model.proofs.MaskLaws.{starts-counted}

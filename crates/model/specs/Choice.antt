@@ -1,6 +1,6 @@
 -- Choices, their worth, code and true sums (document 01, "Choice, sums and grid").
 use Prim.Native.Nat.{ℕ, zero, suc, _+_, _*_, _/_, _%_}
-use mathlib.Core.Bool.{cond}
+use mathlib.Core.Bool.{Bool, cond, not}
 use mathlib.Core.List.{List, [], _∷_, _++_, map}
 use mathlib.Core.Option.{Option, none, some}
 use lib.Dec.{eqb}
@@ -53,6 +53,15 @@ settingNumbered n (v ∷ vs) = cond (eqb (v .number) n) (some v) (settingNumbere
 -- what stands for a setting that a load does not have
 abbrev pub noSetting : Setting
 noSetting = record { number = 0; worth = 0; powers = [] }
+
+-- load k's number c, its level where it runs; there is no load 0
+abbrev pub levelOn : Choice → ℕ → ℕ
+levelOn c zero = 0
+levelOn c (suc k) = getD c k noSetting .number
+
+-- load k runs: its c is not 0
+abbrev pub runningOn : Choice → ℕ → Bool
+runningOn c k = not (eqb (levelOn c k) 0)
 
 -- the first setting of a load; every load that is read has one
 abbrev pub firstSetting : Settings → Setting

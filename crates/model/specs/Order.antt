@@ -15,7 +15,7 @@ use Rattle.model.specs.Bounds.{mostLoads}
 use Rattle.model.specs.Refusals.{Result, refused, done, Rule, _⇒_, first, checked, andThen}
 use Rattle.model.specs.Answers.{Output, bytesOnly, Writes, roomRule}
 use Rattle.model.specs.Book.{Problem, readBook}
-use Rattle.model.specs.Choice.{Choice, noSetting}
+use Rattle.model.specs.Choice.{Choice, runningOn}
 use Rattle.model.specs.SheetReader.{sheetChoice}
 
 -- ---- the loads that start
@@ -23,11 +23,6 @@ use Rattle.model.specs.SheetReader.{sheetChoice}
 -- which loads run; `old` are those of the running sheet, and `new` those of the new one
 abbrev pub Running : Type 0
 Running = ℕ → Bool
-
--- on a choice: load k runs where its c is not 0; there is no load 0
-abbrev pub runningOn : Choice → Running
-runningOn c zero = false
-runningOn c (suc k) = not (eqb (getD c k noSetting .number) 0)
 
 -- "standing in the first, running in the second"; a change of level is no start
 abbrev pub starts : Running → Running → ℕ → Bool

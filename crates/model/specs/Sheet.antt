@@ -1,12 +1,11 @@
 -- The bytes of a sheet (document 01, "The sheet").
 use Prim.Native.Nat.{ℕ, _+_, _*_}
 use mathlib.Core.List.{List, [], _∷_, _++_, map}
-use lib.ListN.{length}
-use Rattle.model.specs.Lists.{concat}
+use lib.ListN.{length, getD}
+use Rattle.model.specs.Lists.{upto, concat}
 use Rattle.model.specs.Frames.{digits, unsigned}
 use Rattle.model.specs.Book.{Power, Problem}
 use Rattle.model.specs.Choice.{Choice, worthOf, sumIn}
-use Rattle.model.specs.Grid.{Slot, slotsOf}
 use Rattle.model.specs.Answers.{Output}
 
 -- "each line ended by one LF"
@@ -21,16 +20,24 @@ numbersOf c = concat (map (λ v. digits 2 (v .number)) c)
 unfoldable pub firstLine : Choice → ℕ → List ℕ
 firstLine c t = digits 2 4 ++ digits 8 (worthOf c) ++ digits 8 t ++ numbersOf c ++ lf
 
--- "Then for each slot: `05`, sum of P (8), sum of Q (8, two's complement of 32 bits), S (4)"
-unfoldable pub slotLine : ℕ → Power → List ℕ
-slotLine limit x = digits 2 5 ++ digits 8 (x .p) ++ digits 8 (unsigned 32 (x .q)) ++ digits 4 limit ++ lf
+-- what a slot's line states: a choice's sums in the slot, and the slot's limit S
+pub record SlotSum : Type 0 where
+  pub sum : Power
+  pub limit : ℕ
 
-unfoldable pub slotLines : List Slot → Choice → List ℕ
-slotLines slots c = concat (map (λ s. slotLine (s .limit) (sumIn (s .place) c)) slots)
+unfoldable pub slotSums : Problem → Choice → List SlotSum
+slotSums b c = map (λ s. record { sum = sumIn s c; limit = getD (b .limits) s 0 }) (upto (length (b .limits)))
+
+-- "Then for each slot: `05`, sum of P (8), sum of Q (8, two's complement of 32 bits), S (4)"
+unfoldable pub slotLine : SlotSum → List ℕ
+slotLine x = digits 2 5 ++ digits 8 (x .sum .p) ++ digits 8 (unsigned 32 (x .sum .q)) ++ digits 4 (x .limit) ++ lf
+
+unfoldable pub slotLines : List SlotSum → List ℕ
+slotLines xs = concat (map slotLine xs)
 
 -- the sheet of a choice and a number of trials: "These c are the sheet's choice; worth and sums on the sheet are that choice's"
 unfoldable pub sheetBytes : Problem → Choice → ℕ → List ℕ
-sheetBytes b c t = firstLine c t ++ slotLines (slotsOf b) c
+sheetBytes b c t = firstLine c t ++ slotLines (slotSums b c)
 
 abbrev pub sheetOf : Problem → Choice → ℕ → Output
 sheetOf b c t = record { bytes = sheetBytes b c t; worth = worthOf c; trials = t }

@@ -12,9 +12,9 @@ use borrow.Author.Tests.{le-ltb}
 use Rattle.model.specs.declared.Refusal.the-variants.{ForeignSheet}
 use Rattle.model.specs.Refusals.{Result, refused, andThen}
 use Rattle.model.specs.Book.{Setting, Problem}
-use Rattle.model.specs.Choice.{Choice, noSetting}
+use Rattle.model.specs.Choice.{Choice, runningOn, noSetting}
 use Rattle.model.specs.SheetReader.{sheetChoice}
-use Rattle.model.specs.Order.{runningOn, OrderData, loadsOrder, sheetsOrder}
+use Rattle.model.specs.Order.{OrderData, loadsOrder, sheetsOrder}
 use Rattle.model.specs.Valid.{ValidBook}
 use Rattle.model.specs.Values.{Picked, choiceOf}
 use Rattle.model.proofs.IntegerLaws.{split}

@@ -1,38 +1,38 @@
 -- The sheet that the code writes is the one of the definitions.
 -- Assumes nothing.
-use Prim.Native.Nat.{ℕ, _*_, _^_, _≤_, _<_}
+use Prim.Native.Nat.{ℕ, _+_, _-_, _*_, _^_, _≤_, _<_}
 use mathlib.Core.Path.{_≡_, sym, ap, ap₂, _∙_}
 use mathlib.Core.List.{List, [], _++_, map}
 use native.Mathlib.Nat.{zero-add}
 use native.Mathlib.Omega.{arith}
 use lib.IntN.{subℕ}
-use lib.ListN.{length, getD}
+use lib.ListN.{length, getD, take, drop}
 use Rattle.model.specs.declared.Book.{Book}
 use Rattle.model.specs.Lists.{upto}
 use Rattle.model.specs.Frames.{unsigned}
 use Rattle.model.specs.Refusals.{done}
 use Rattle.model.specs.Book.{Setting, Problem}
 use Rattle.model.specs.Choice.{Choice, IsChoice, worthOf, sumIn, noSetting}
-use Rattle.model.specs.Grid.{slotsOf}
 use Rattle.model.specs.Answers.{bufferAfter}
-use Rattle.model.specs.Sheet.{slotLines, sheetBytes, sheetLength, sheetOf}
+use Rattle.model.specs.Sheet.{firstLine, slotSums, slotLines, sheetBytes, sheetLength, sheetOf}
 use Rattle.model.specs.Valid.{Labelled, ValidBook}
 use Rattle.model.specs.Values.{Held, Picked, settingOf, choiceOf, problemOf}
 use Rattle.model.proofs.ListLaws.{every-at}
 use Rattle.model.proofs.UptoLaws.{getD-upto}
 use Rattle.model.proofs.PlanLaws.{chosen-length}
-use Rattle.model.proofs.SheetLaws.{sheet-length}
+use Rattle.model.proofs.SheetLaws.{length-first, length-slot-lines, sheet-length}
 use Rattle.model.proofs.ValueLaws.{numbered-at}
 use Rattle.model.proofs.RaisedLaws.{raised-less}
+use Rattle.model.proofs.SumLaws.{sum-small, choice-small}
 use Rattle.model.proofs.HeldLaws.{held-valid, held-count, held-slots, held-four, held-limit}
 use Rattle.hex.specs.Written.{written}
 use Rattle.hex.proofs.WrittenLaws.{written-start}
 use Rattle.sums.specs.declared.Sums.{Sums}
 use Rattle.sums.specs.Sums.{sumsValue}
-use Rattle.sums.proofs.SumsLaws.{reactive-sum, sums-active, sums-reactive, choice-small, choice-sums}
+use Rattle.sums.proofs.SumsLaws.{sums-active, sums-reactive, choice-sums}
 use Rattle.sums.proofs.PickLaws.{picked-choice}
 use Rattle.lines.specs.Lines.{firstBytes, slotsBytes}
-use Rattle.lines.proofs.LineLaws.{first-is, slots-are}
+use Rattle.lines.proofs.LineLaws.{then-written, first-is, slots-are}
 
 -- ---- the sheet of a choice whose numbers are in an array
 
@@ -74,7 +74,7 @@ module _ (book : Book) (h : Held book) (picks : List ℕ) (picked : Picked (prob
     reactive-is : (s : ℕ) → s < 4 → subℕ (getD (sums .reactives) s 0) (32768 * book .count) ≡ sumIn s c .q
     reactive-is s l =
         ap₂ (λ x n. subℕ x (32768 * n)) (ap (λ (x : Sums). getD (x .reactives) s 0) e ∙ sums-reactive c s l) (sym count-is)
-        ∙ raised-less (length c) (sumIn s c .q) (reactive-sum c (choice-small b (held-valid book h) c chosen) s)
+        ∙ raised-less (length c) (sumIn s c .q) (sum-small c (choice-small b (held-valid book h) c chosen) s .reactive)
 
     word-at : (s : ℕ) → s < 4 → getD words s 0 ≡ unsigned 32 (sumIn s c .q)
     word-at s l =
@@ -82,33 +82,28 @@ module _ (book : Book) (h : Held book) (picks : List ℕ) (picked : Picked (prob
         ∙ getD-upto (λ i. unsigned 32 (subℕ (getD (sums .reactives) i 0) (32768 * book .count))) 4 s 0 l
         ∙ ap (unsigned 32) (reactive-is s l)
 
-    slots-lines : slotsBytes (sums .actives) words (book .limits) (book .slots) ≡ slotLines (slotsOf b) c
-    unfolding slotsOf
+    -- the code's numbers give the slot lines of the definitions
+    pub slots-lines : slotsBytes (sums .actives) words (book .limits) (book .slots) ≡ slotLines (slotSums b c)
     slots-lines =
         ap (slotsBytes (sums .actives) words (book .limits)) (held-slots book h)
-        ∙ sym
-        (slots-are (length (b .loads)) (b .fineness) c (sums .actives) words (book .limits) (b .limits)
-        (λ s l. active-is s (four s l)) (λ s l. word-at s (four s l)) (λ s l. held-limit book h s (four s l)))
+        ∙ slots-are b c (sums .actives) words (book .limits)
+        (λ s l. active-is s (four s l)) (λ s l. word-at s (four s l)) (λ s l. held-limit book h s (four s l))
       where
         four : (s : ℕ) → s < length (b .limits) → s < 4
         four s l = omega (arith, held-slots book h, held-four book h)
 
-    -- the code's numbers give the sheet of the definitions
-    pub sheet-bytes-are : (worth trials : ℕ) → worth ≡ worthOf c
-        → firstBytes picks (book .count) worth trials ++ slotsBytes (sums .actives) words (book .limits) (book .slots) ≡ sheetBytes b c trials
-    unfolding sheetBytes
-    sheet-bytes-are worth trials f =
-        ap₂ {C = List ℕ} (λ x y. x ++ y)
-        (ap (λ v. firstBytes picks (book .count) v trials) f
-        ∙ first-is c picks (book .count) count-is (λ k l. number-at b picks (held-valid book h) picked k (omega (arith, held-count book h))) trials)
-        slots-lines
-
-    -- and leave it in the buffer
-    pub sheet-left : (worth trials : ℕ) (l l′ : List ℕ) → worth ≡ worthOf c
-        → l′ ≡ written l 0 (firstBytes picks (book .count) worth trials ++ slotsBytes (sums .actives) words (book .limits) (book .slots))
-        → l′ ≡ bufferAfter (done (sheetOf b c trials)) l
-    sheet-left worth trials l l′ f g =
-        g ∙ ap (written l 0) (sheet-bytes-are worth trials f) ∙ written-start l (sheetBytes b c trials)
-
   pub bytes-length : (trials : ℕ) → length (sheetBytes b c trials) ≡ sheetLength b
   bytes-length trials = sheet-length b c trials (choice-length b picks (held-valid book h) picked)
+
+  -- the first line and then the slot lines leave the sheet in the buffer
+  pub sheet-left : (worth trials p : ℕ) (l l₁ l₂ : List ℕ) → worth ≡ worthOf c → l₁ ≡ written l 0 (firstBytes picks (book .count) worth trials)
+      → l₂ ≡ written (take (length l₁ - p) (drop p l₁)) 0 (slotLines (slotSums b c)) → p ≡ 19 + 2 * book .count → sheetLength b ≤ length l
+      → take p l₁ ++ (l₂ ++ drop (length l₁ - p) (drop p l₁)) ≡ bufferAfter (done (sheetOf b c trials)) l
+  unfolding sheetBytes
+  sheet-left worth trials p l l₁ l₂ f first rest q room =
+      let first-line : firstBytes picks (book .count) worth trials ≡ firstLine c trials
+      = ap (λ v. firstBytes picks (book .count) v trials) f
+      ∙ first-is c picks (book .count) count-is (λ k i. number-at b picks (held-valid book h) picked k (omega (arith, held-count book h))) trials in
+      then-written l l₁ l₂ (firstLine c trials) (slotLines (slotSums b c)) p (first ∙ ap (written l 0) first-line) rest
+      (omega (arith, length-first c trials, count-is)) (omega (arith, length-slot-lines b c, held-count book h))
+      ∙ written-start l (sheetBytes b c trials)

@@ -14,7 +14,6 @@ use Rattle.model.specs.Index.{widthOf}
 use Rattle.model.specs.Bounds.{mostCells}
 use Rattle.model.proofs.IndexLaws.{cells-one}
 use Rattle.model.proofs.DemandLaws.{slotAt}
-use Rattle.model.proofs.SheetLaws.{length-slots}
 use Rattle.model.proofs.UptoLaws.{suc-across}
 use Rattle.model.proofs.HeldLaws.{held-valid, held-count, held-slots, held-four, held-limit, held-limit-small}
 use Rattle.slots.specs.Slots.{SlotsIn, noSlot, SlotAt, Laid}
@@ -29,13 +28,19 @@ from-at n d i (s ∷ ss) zero l = let e : i ≡ i + 0 = omega arith in ap (λ j.
 from-at n d i (s ∷ ss) (suc t) l =
     from-at n d (suc i) ss t (le-of-suc-le-suc l) ∙ ap (λ j. slotAt n d j (getD ss t 0)) (sym (suc-across i t))
 
+length-slots : (n d i : ℕ) (ss : List ℕ) → length (slotsFrom n d i ss) ≡ length ss
+length-slots n d i [] = refl
+length-slots n d i (s ∷ ss) = ap suc (length-slots n d (suc i) ss)
+
 -- slot t, of a book's value
 abbrev pub slotIn : Book → ℕ → Slot
 slotIn v t = slotAt (v .count) (v .fineness) t (getD (v .limits) t 0)
 
 module _ (v : Book) (h : Held v) where
   pub slots-length : length (slotsOf (problemOf v)) ≡ v .slots
-  slots-length = length-slots (problemOf v) ∙ sym (held-slots v h)
+  unfolding slotsOf
+  slots-length =
+      length-slots (length (problemOf v .loads)) (problemOf v .fineness) 0 (problemOf v .limits) ∙ sym (held-slots v h)
 
   fineness-is : problemOf v .fineness ≡ v .fineness
   unfolding problemOf

@@ -7,7 +7,6 @@ use Prim.Native.Nat.{ℕ, zero, suc, _+_, _*_, _/_, _%_, _<_, _≤_}
 use native.Mathlib.Nat.{le-of-suc-le-suc}
 use native.Mathlib.Numerals.{add-one}
 use native.Mathlib.Omega.{arith}
-use lib.IntN.{natAbs}
 use lib.ListN.{length, getD, set, length-append, length-set, getD-replicate}
 use Rattle.model.specs.Lists.{Mem, Every, upto}
 use Rattle.model.specs.Bounds.{mostLoads}
@@ -15,35 +14,15 @@ use Rattle.model.specs.Book.{Power, Setting, Settings, Problem}
 use Rattle.model.specs.Choice.{Choice, IsChoice, plus, powerIn, sumIn, noSetting}
 use Rattle.model.specs.Valid.{Labelled, SettingSmall, ValidBook}
 use Rattle.model.specs.Values.{raisedBy, settingOf, loadValue}
-use Rattle.model.proofs.ListLaws.{every-mem, every-at, every-set}
+use Rattle.model.proofs.ListLaws.{every-at, every-set}
 use Rattle.model.proofs.UptoLaws.{getD-upto, upto-is}
-use Rattle.model.proofs.ChoiceLaws.{snoc, plus-comm, sum-last, choice-every}
+use Rattle.model.proofs.ChoiceLaws.{snoc, plus-comm, sum-last}
 use Rattle.model.proofs.PlanLaws.{chosen-length}
 use Rattle.model.proofs.QuickLaws.{sum-set}
-use Rattle.model.proofs.RaisedLaws.{raised-one, raised-plus, abs-plus, raised-most}
+use Rattle.model.proofs.RaisedLaws.{raised-one, raised-plus, raised-most}
+use Rattle.model.proofs.SumLaws.{PowerSmall, power-small, sum-small, choice-small, choice-few}
 use Rattle.model.proofs.HeldLaws.{setting-small, load-active, load-reactive, loads-small}
 use Rattle.sums.specs.Sums.{sumsValue, shiftedIn, shifted, noPowers, added, exchanged, Small, SumsSmall, CanShift, CanAdd, CanExchange}
-
--- ---- small settings
-
--- a sum of n powers
-record PowerSmall (n : ℕ) (x : Power) : Type 0 where
-  pub active : x .p ≤ 65535 * n
-  pub reactive : natAbs (x .q) ≤ 32768 * n
-
-power-small : (v : Setting) → SettingSmall v → (s : ℕ) → PowerSmall 1 (powerIn s v)
-power-small v h s = omega (arith, h .active s, h .reactive s)
-
-sum-small : (c : Choice) → Every SettingSmall c → (s : ℕ) → PowerSmall (length c) (sumIn s c)
-sum-small [] h s = omega arith
-sum-small (v ∷ c) h s =
-    omega (arith, sum-small c (h .1) s, h .0 .active s, h .0 .reactive s, abs-plus (powerIn s v .q) (sumIn s c .q))
-
-pub active-sum : (c : Choice) → Every SettingSmall c → (s : ℕ) → sumIn s c .p ≤ 65535 * length c
-active-sum c h s = sum-small c h s .active
-
-pub reactive-sum : (c : Choice) → Every SettingSmall c → (s : ℕ) → natAbs (sumIn s c .q) ≤ 32768 * length c
-reactive-sum c h s = sum-small c h s .reactive
 
 -- ---- what an array holds for a sum x of n powers: P, or Q + 32,768 n
 
@@ -221,24 +200,19 @@ set-choice (vs ∷ loads) (u ∷ c) (suc k) v m h n = (m .0, set-choice loads c 
 
 module _ (b : Problem) (valid : ValidBook b) where
   module _ (c : Choice) (chosen : IsChoice (b .loads) c) where
-    pub choice-small : Every SettingSmall c
-    choice-small = choice-every (Every SettingSmall) SettingSmall (λ vs v h n. every-mem SettingSmall v vs n h) (b .loads) c (valid .loads .small) chosen
-
-    pub choice-few : length c ≤ mostLoads
-    choice-few = omega (arith, chosen-length (b .loads) c chosen, valid .loads-few)
-
     pub choice-sums : SumsSmall (sumsValue c)
-    choice-sums = sums-small c choice-small choice-few
+    choice-sums = sums-small c (choice-small b valid c chosen) (choice-few b valid c chosen)
 
     -- load k + 1 stands
     module _ (k : ℕ) (inside : k < length (b .loads)) (standing : getD c k noSetting ≡ settingOf (getD (b .loads) k []) 0) where
       pub choice-can-exchange : CanExchange (sumsValue c) (loadValue (getD (b .loads) k []))
       choice-can-exchange =
-          can-exchange c (getD (b .loads) k []) k choice-small (loads-small b valid k) (omega (arith, chosen-length (b .loads) c chosen)) standing choice-few
+          can-exchange c (getD (b .loads) k []) k (choice-small b valid c chosen) (loads-small b valid k) (omega (arith, chosen-length (b .loads) c chosen)) standing
+          (choice-few b valid c chosen)
 
       pub choice-exchanged : exchanged (sumsValue c) (loadValue (getD (b .loads) k [])) ≡ sumsValue (set c k (settingOf (getD (b .loads) k []) 1))
       choice-exchanged =
-          exchanged-set c (getD (b .loads) k []) k choice-small (loads-small b valid k) (omega (arith, chosen-length (b .loads) c chosen)) standing
+          exchanged-set c (getD (b .loads) k []) k (choice-small b valid c chosen) (loads-small b valid k) (omega (arith, chosen-length (b .loads) c chosen)) standing
 
       pub choice-set : IsChoice (b .loads) (set c k (settingOf (getD (b .loads) k []) 1))
       choice-set =

@@ -1,36 +1,49 @@
--- `sheet::write_sheet` meets its contract: the bytes written are the lines of the definitions. Assumes nothing.
+-- `sheet::write_sheet` meets its contract: the first line and the slot lines after it are the sheet. Assumes nothing.
 use mathlib.Core.Path.{_≡_, _∙_, sym, ap₂}
 use Rattle.model.specs.Answers.{successAnswer}
 use native.Mathlib.Omega.{arith}
 use borrow.Author.Needs.{needs}
-use Rattle.model.proofs.HeldLaws.{held-count, held-few, held-slots, held-four}
+use Rattle.model.proofs.HeldLaws.{held-count, held-few}
 use Rattle.sheet.proofs.write_sheet.Statement.{statement}
-use Rattle.sheet.proofs.WriteLaws.{reactive-room, sheet-left, bytes-length}
+use Rattle.sheet.proofs.WriteLaws.{sheet-left, bytes-length}
 use Rattle.sheet.proofs.write_sheet.Tie as tie
 
 worth-of-requires : tie.Need-worth-of-requires
 worth-of-requires c κs = search needs
 
-sums-of-requires : tie.Need-sums-of-requires
-sums-of-requires c κs = search needs
+write-first-requires : tie.Need-write-first-requires
+write-first-requires c κs =
+    let s = c .before .before .before in
+    (held-few (s .args .book) (s .pre .0), omega (arith, s .pre .1 .1, held-count (s .args .book) (s .pre .0)))
 
-mul-words-of : tie.Need-mul-words-of
-mul-words-of c =
-    let a = c .before .before .before .before .before .before in
-    omega (arith, held-few (a .args .book) (a .pre .0))
+mul-first : tie.Need-mul-first
+mul-first c =
+    let s = c .before .before .before .before .before .before in
+    omega (arith, held-few (s .args .book) (s .pre .0))
 
-words-of-requires : tie.Need-words-of-requires
-words-of-requires c κs =
-    let a = c .before .before .before .before .before .before in
-    (omega (arith, held-few (a .args .book) (a .pre .0)), reactive-room (a .args .book) (a .pre .0) (a .args .picks) (a .pre .1 .0) _ (c .before .before .sums-of .ensures))
+add-first : tie.Need-add-first
+add-first c =
+    let s = c .before .before .before .before .before .before in
+    omega (arith, held-few (s .args .book) (s .pre .0))
 
-write-lines-requires : tie.Need-write-lines-requires
-write-lines-requires c κs =
-    let a = c .before .before .before .before .before .before .before .before in (
-      held-four (a .args .book) (a .pre .0),
-      held-few (a .args .book) (a .pre .0),
-      omega (arith, a .pre .1 .1, held-count (a .args .book) (a .pre .0), held-slots (a .args .book) (a .pre .0)),
-    )
+-- the slot lines' part begins within the buffer
+sub-write-slot-lines : tie.Need-sub-write-slot-lines
+sub-write-slot-lines c =
+    let s = c .before .before .before .before .before .before in
+    omega (arith, s .pre .1 .1, held-count (s .args .book) (s .pre .0))
+
+part-write-slot-lines-start : tie.Need-part-write-slot-lines-start
+part-write-slot-lines-start c =
+    let s = c .before .before .before .before .before .before in
+    omega (arith, s .pre .1 .1, held-count (s .args .book) (s .pre .0))
+
+part-write-slot-lines-end : tie.Need-part-write-slot-lines-end
+part-write-slot-lines-end c = search needs
+
+write-slot-lines-requires : tie.Need-write-slot-lines-requires
+write-slot-lines-requires c κs =
+    let s = c .before .before .before .before .before .before .before in
+    (s .pre .0, (s .pre .1 .0, omega (arith, s .pre .1 .1, held-count (s .args .book) (s .pre .0))))
 
 sheet-length-requires : tie.Need-sheet-length-requires
 sheet-length-requires c κs = search needs
@@ -43,16 +56,16 @@ same-length c = search needs
 
 returns : tie.Need-returns
 returns c =
-    let a = c .before .before .before .before .before .before .before .before .before .before .before .before .before in
-    let w = c .before .before .before .before .before .before .before .before .before .before .worth-of in
-    let sums = c .before .before .before .before .before .before .before .before .before .sums-of in
-    let words = c .before .before .before .before .before .before .words-of in
+    let s = c .before .before .before .before .before .before .before .before .before .before .before .before in
+    let a = s .args in
+    let worth = c .before .before .before .before .before .before .before .before .before .before .worth-of in
     let n = c .before .sheet-length in
-    let long : n .result ≡ _ = n .ensures ∙ sym (bytes-length (a .args .book) (a .pre .0) (a .args .picks) (a .pre .1 .0) (a .args .trials)) in
+    let long : n .result ≡ _ = n .ensures ∙ sym (bytes-length (a .book) (s .pre .0) (a .picks) (s .pre .1 .0) (a .trials)) in
     record {
-      answers = c .success .ensures ∙ ap₂ (λ x y. successAnswer x y (a .args .trials)) long (w .ensures);
-      leaves = sheet-left (a .args .book) (a .pre .0) (a .args .picks) (a .pre .1 .0) (sums .result) (words .result) (sums .ensures) (words .ensures)
-          (w .result) (a .args .trials) (a .args .sheet .now) _ (w .ensures) (c .before .before .before .before .write-lines .ensures);
+      answers = c .success .ensures ∙ ap₂ (λ x y. successAnswer x y (a .trials)) long (worth .ensures);
+      leaves = sheet-left (a .book) (s .pre .0) (a .picks) (s .pre .1 .0) (worth .result) (a .trials) _ (a .sheet .now) _ _ (worth .ensures)
+          (c .before .before .before .before .before .before .before .before .write-first .ensures)
+          (c .before .before .before .before .write-slot-lines .ensures) (omega arith) (s .pre .1 .1);
     }
 
 pub write-sheet-spec : {M : Type 1} → statement M
@@ -60,10 +73,13 @@ write-sheet-spec =
     tie.close
     (tie.spec
     worth-of-requires
-    sums-of-requires
-    mul-words-of
-    words-of-requires
-    write-lines-requires
+    write-first-requires
+    mul-first
+    add-first
+    sub-write-slot-lines
+    part-write-slot-lines-start
+    part-write-slot-lines-end
+    write-slot-lines-requires
     sheet-length-requires
     success-requires
     same-length
