@@ -1,5 +1,5 @@
-// The public calls for programs in C and other languages: the planner, the quick planner, the sheet reader, the charge and
-// the order of starting.
+// The public calls for programs in C and other languages: the planner, the quick planner, the sheet reader, the charge, the
+// order of starting, and what the mill and the supply company see.
 use model::Answer;
 use model::ChargeAnswer;
 use model::OrderAnswer;
@@ -15,6 +15,7 @@ ghost use Rattle.model.specs.SheetReader.{readerResult, sheetAnswerOf};
 ghost use Rattle.model.specs.Demand.{Demand3};
 ghost use Rattle.model.specs.Charge.{chargeResult, chargeAnswerOf};
 ghost use Rattle.model.specs.Order.{orderResult, WritesOrder, OrderKept};
+ghost use Rattle.model.specs.Views.{millResult, supplyResult, SumsAlone};
 ghost use Rattle.model.specs.Bounds.{mostCharge};
 
 // The planner: the sheet of the plan, or the first refusal of 1 to 12.
@@ -65,4 +66,21 @@ pub extern "C" fn jadeshuttle_order(
     ensures kept { λ r. ⌜ (r .answer .number ≡ 0 → OrderKept (now (book .entry)) (now (running .entry)) (now (planned .entry)) (now (names .entry)) (now (order .exit)) r) ⌝ }
 {
     order::order(book, running, planned, names, order)
+}
+
+// The mill's view of a sheet: the worth and the running loads, or refusals 13 and 11; the book's own refusals come first.
+#[no_mangle]
+pub extern "C" fn jadeshuttle_mill_view(book: &[u8], sheet: &[u8], view: &mut [u8]) -> Answer
+    ensures { λ r. ⌜ Writes (millResult (now (book .entry)) (now (sheet .entry)) (length (now (view .entry)))) (now (view .entry)) (now (view .exit)) r ⌝ }
+{
+    views::mill_view(book, sheet, view)
+}
+
+// The supply company's view of a sheet: the slot lines, or refusals 13 and 11; the book's own refusals come first.
+#[no_mangle]
+pub extern "C" fn jadeshuttle_supply_view(book: &[u8], sheet: &[u8], view: &mut [u8]) -> Answer
+    ensures result { λ r. ⌜ Writes (supplyResult (now (book .entry)) (now (sheet .entry)) (length (now (view .entry)))) (now (view .entry)) (now (view .exit)) r ⌝ }
+    ensures alone { λ r. ⌜ SumsAlone (now (book .entry)) (now (sheet .entry)) (now (view .entry)) (now (view .exit)) r ⌝ }
+{
+    views::supply_view(book, sheet, view)
 }

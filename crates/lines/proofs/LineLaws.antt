@@ -37,7 +37,7 @@ concat-last [] ys = append-nil ys
 concat-last (xs ∷ xss) ys = ap (λ r. xs ++ r) (concat-last xss ys) ∙ sym (append-assoc xs (concat xss) ys)
 
 module _ (f : ℕ → List ℕ) where
-  pieces-last : (n : ℕ) → concat (map f (upto (n + 1))) ≡ concat (map f (upto n)) ++ f n
+  pub pieces-last : (n : ℕ) → concat (map f (upto (n + 1))) ≡ concat (map f (upto n)) ++ f n
   pieces-last n =
       ap (λ m. concat (map f (upto m))) (add-one n)
       ∙ ap (λ r. concat (map f r)) (upto-last n)

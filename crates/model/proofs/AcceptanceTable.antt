@@ -1,8 +1,8 @@
 -- The proved table: document 01's starred cases ("Trials at the bench"), the ends of M-102's range, two overloads near M-106's bound, charges (M-100),
--- orders of starting (M-101), and edges where a near mistake shows, as one table of facts about the definitions, with one statement covering it. Star n is
+-- orders of starting (M-101), views (M-103), and edges where a near mistake shows, as one table of facts about the definitions, with one statement covering it. Star n is
 -- the n-th star of document 01.
 -- Assumes nothing.
-use mathlib.Core.Path.{_≡_, refl}
+use mathlib.Core.Path.{_≡_, refl, ap₂, _∙_}
 use mathlib.Core.Bool.{Bool, true, false, _&&_}
 use mathlib.Core.List.{List, [], _∷_, _++_, map}
 use Prim.Native.Nat.{ℕ, suc, _+_, _*_, _-_}
@@ -16,6 +16,7 @@ use Rattle.model.specs.declared.ChargeAnswer.{ChargeAnswer}
 use Rattle.model.specs.Lists.{upto, all, any, concat, sameLists}
 use Rattle.model.specs.Frames.{isDigit, digitValue, digit, valueFrom, field, digits, signed, unsigned, lineLength}
 use Rattle.model.specs.Refusals.{Result, refused, done, numberOf, first}
+use Rattle.model.specs.Answers.{Output}
 use Rattle.model.specs.Book.{Problem, optionStart, headerRules, someExceeds, loadRules, readLoads, readBook}
 use Rattle.model.specs.Choice.{square}
 use Rattle.model.specs.Grid.{stepFor, slotsOf, floorDiv, bestAdmitted, plan}
@@ -28,7 +29,9 @@ use Rattle.model.specs.Demand.{apparentSquaredIn, closerBound}
 use Rattle.model.specs.Rounding.{floorBySum}
 use Rattle.model.specs.SheetReader.{sheetChoice}
 use Rattle.model.specs.Charge.{rounded, chargeOf, choiceCharge, sheetCharge, chargeResult, chargeAnswerOf}
+use Rattle.model.specs.Views.{accepted, shown, runningLoads, numberAndLevel, millLine, millResult, supplyView, supplyResult}
 use Rattle.model.specs.Order.{Running, starting, runningMask, andNot, startCount, wrongNames, someBlocked, left, ready, startNext, startedAfter, startOrder, OrderData, loadsOrder, sheetsOrder, orderResult}
+use Rattle.model.proofs.ListLaws.{all-join}
 
 abbrev pub bytesOf : String → List ℕ
 bytesOf ε = []
@@ -61,6 +64,8 @@ pub data Row : Type 0 where
   orders : List ℕ → List ℕ → List ℕ → ℕ → List ℕ → Row
   -- the same from the sheet with these c to that with those
   ordersFrom : String → String → List ℕ → ℕ → List ℕ → Row
+  -- the mill's view of a book and a sheet, or the supply company's, in a buffer of so many bytes, printed as the program prints a sheet
+  shows : (List ℕ → List ℕ → ℕ → Result Output) → List ℕ → List ℕ → ℕ → String → Row
 
 abbrev printsFor : String → String → Bool
 printsFor book out = sameLists eqb (programOutput (bytesOf book)) (bytesOf out)
@@ -119,6 +124,7 @@ holds (charges book sheet prices numbers) = sameLists eqb (chargeNumbers (charge
 holds (orders old new names room numbers) = sameLists eqb (orderNumbers (loadsOrder 3 names room (among old) (among new))) numbers
 holds (ordersFrom old new names room numbers) =
     sameLists eqb (orderNumbers (orderResult levelsBook (levelsSheet old) (levelsSheet new) names room)) numbers
+holds (shows view book sheet room out) = sameLists eqb (printed (view book sheet room)) (bytesOf out)
 
 -- two slots, and one load with P = 20 and P = 4; and the sheet on which it runs
 abbrev halvesBook : List ℕ
@@ -136,10 +142,27 @@ abbrev fullSheet : List ℕ
 fullSheet =
     bytesOf "040000000000000000" ++ concat (replicate 24 (bytesOf "01")) ++ lf ++ concat (replicate 4 (bytesOf "050017FFE800000000FFFF\n"))
 
-unfoldable pub rows : List Row
-rows =
-    -- What is soon computed, edges and M-106 stand first, and the longest book last: the checker shows what a table computes to only up to a number of
-    -- steps, and a near mistake is to show as false.
+-- document 01's book and sheet; and a book of one load with the sheet on which it runs, with the same sums and limit
+abbrev exampleBook : List ℕ
+exampleBook = bytesOf "0101030400000064000A\n0201000500050005\n020100050004FFFC\n0201000400040000\n"
+
+abbrev exampleSheet : List ℕ
+exampleSheet = bytesOf "040000000A0000000E010100\n050000000900000001000A\n"
+
+abbrev twinBook : List ℕ
+twinBook = bytesOf "0101010100000064000A\n0201000100090001\n"
+
+abbrev twinSheet : List ℕ
+twinSheet = bytesOf "04000000010000000001\n050000000900000001000A\n"
+
+-- and the sheet on which it stands
+abbrev standingSheet : List ℕ
+standingSheet = bytesOf "04000000000000000000\n050000000000000000000A\n"
+
+-- of books and their plans. What is soon computed, edges and M-106 stand first: the checker shows what a list computes to only up to a number of steps,
+-- and a near mistake is to show as false.
+unfoldable pub planRows : List Row
+planRows =
     -- star 5: S = 23 and S = 24
     steps 3 4 23 1
     ∷ steps 3 4 24 2
@@ -152,41 +175,6 @@ rows =
     ∷ rounds (negℤ (pos 32768)) 65535 (negℤ (pos 1))
     ∷ rounds (pos 32767) 1 (pos 32767)
     ∷ rounds (pos 32767) 65535 (pos 0)
-    -- M-100: under a half, a half, and halves again
-    ∷ roundsCharge 19 0
-    ∷ roundsCharge 20 1
-    ∷ roundsCharge 60 2
-    ∷ roundsCharge 180 5
-    -- M-100, two slots with 20 × 1 and 4 × 5: two halves, each of which is rounded to 1; their sum, 40/40, would give 1
-    ∷ charges halvesBook halvesSheet (1 ∷ 5 ∷ []) (0 ∷ 0 ∷ 2 ∷ [])
-    -- M-100: a price too few, and one too many
-    ∷ charges halvesBook halvesSheet (1 ∷ []) (14 ∷ 0 ∷ 0 ∷ [])
-    ∷ charges halvesBook halvesSheet (1 ∷ 5 ∷ 5 ∷ []) (14 ∷ 0 ∷ 0 ∷ [])
-    -- M-100, two faults: 13 comes before 14, and the book's 7 before both
-    ∷ charges halvesBook [] [] (13 ∷ 0 ∷ 0 ∷ [])
-    ∷ charges (bytesOf "01010101000000640064\n020100010004FFFB\n") [] [] (7 ∷ 2 ∷ 0 ∷ [])
-    -- M-101, where load 1 names 3: all start, the lowest of those ready first; highest first would be 3, 2, 1
-    ∷ orders [] (1 ∷ 2 ∷ 3 ∷ []) (3 ∷ 0 ∷ 0 ∷ []) 3 (0 ∷ 3 ∷ 0 ∷ 2 ∷ 3 ∷ 1 ∷ [])
-    -- M-101: load 3 runs already, so load 2, which names it, is ready at once
-    ∷ orders (3 ∷ []) (1 ∷ 2 ∷ 3 ∷ []) (2 ∷ 3 ∷ 0 ∷ []) 24 (0 ∷ 2 ∷ 0 ∷ 2 ∷ 1 ∷ [])
-    -- M-101: loads 1 and 2 stop, load 3 starts
-    ∷ orders (1 ∷ 2 ∷ []) (3 ∷ []) (0 ∷ 0 ∷ 0 ∷ []) 1 (0 ∷ 1 ∷ 2 ∷ 3 ∷ [])
-    -- M-101: an order of nothing fits a buffer of 0 bytes; one of two does not fit a buffer of 1
-    ∷ orders (1 ∷ 3 ∷ []) (1 ∷ 3 ∷ []) (3 ∷ 3 ∷ 0 ∷ []) 0 (0 ∷ 0 ∷ 0 ∷ [])
-    ∷ orders [] (1 ∷ 2 ∷ []) (2 ∷ 0 ∷ 0 ∷ []) 1 (11 ∷ 0 ∷ [])
-    -- M-101, 15: a name too few, one too many, a load's own number, a lower one, and one above N, though no load starts
-    ∷ orders [] [] (0 ∷ 0 ∷ []) 0 (15 ∷ 0 ∷ [])
-    ∷ orders [] [] (0 ∷ 0 ∷ 0 ∷ 0 ∷ []) 0 (15 ∷ 0 ∷ [])
-    ∷ orders [] [] (0 ∷ 2 ∷ 0 ∷ []) 0 (15 ∷ 0 ∷ [])
-    ∷ orders [] [] (0 ∷ 0 ∷ 1 ∷ []) 0 (15 ∷ 0 ∷ [])
-    ∷ orders [] [] (4 ∷ 0 ∷ 0 ∷ []) 0 (15 ∷ 0 ∷ [])
-    -- M-101, 16: the named load stands in both sheets, or stops; but not where the load that names it runs already
-    ∷ orders [] (1 ∷ []) (2 ∷ 0 ∷ 0 ∷ []) 1 (16 ∷ 0 ∷ [])
-    ∷ orders (2 ∷ []) (1 ∷ []) (2 ∷ 0 ∷ 0 ∷ []) 1 (16 ∷ 0 ∷ [])
-    ∷ orders (1 ∷ 2 ∷ []) (1 ∷ []) (2 ∷ 0 ∷ 0 ∷ []) 0 (0 ∷ 0 ∷ 1 ∷ [])
-    -- M-101, two faults: 15 before 16, and 16 before 11
-    ∷ orders [] (1 ∷ []) (2 ∷ 2 ∷ 0 ∷ []) 1 (15 ∷ 0 ∷ [])
-    ∷ orders [] (1 ∷ []) (2 ∷ 0 ∷ 0 ∷ []) 0 (16 ∷ 0 ∷ [])
     -- an edge, two faults on one line: a byte G and kind 03, and 2 comes before 3
     ∷ prints "030G\n" "FF020001\n"
     -- an edge, the same: 5 slots and no limit, and 4 comes before 5
@@ -233,6 +221,60 @@ rows =
     -- star 11: |Q| = P is read, |Q| = P + 1 is refused
     ∷ reads "01010101000000640064\n020100010004FFFC\n"
     ∷ prints "01010101000000640064\n020100010004FFFB\n" "FF070002\n"
+    ∷ []
+
+-- of sheets: charges, views and orders of starting, the longest book last
+unfoldable pub sheetRows : List Row
+sheetRows =
+    -- M-100: under a half, a half, and halves again
+    roundsCharge 19 0
+    ∷ roundsCharge 20 1
+    ∷ roundsCharge 60 2
+    ∷ roundsCharge 180 5
+    -- M-100, two slots with 20 × 1 and 4 × 5: two halves, each of which is rounded to 1; their sum, 40/40, would give 1
+    ∷ charges halvesBook halvesSheet (1 ∷ 5 ∷ []) (0 ∷ 0 ∷ 2 ∷ [])
+    -- M-100: a price too few, and one too many
+    ∷ charges halvesBook halvesSheet (1 ∷ []) (14 ∷ 0 ∷ 0 ∷ [])
+    ∷ charges halvesBook halvesSheet (1 ∷ 5 ∷ 5 ∷ []) (14 ∷ 0 ∷ 0 ∷ [])
+    -- M-100, two faults: 13 comes before 14, and the book's 7 before both
+    ∷ charges halvesBook [] [] (13 ∷ 0 ∷ 0 ∷ [])
+    ∷ charges (bytesOf "01010101000000640064\n020100010004FFFB\n") [] [] (7 ∷ 2 ∷ 0 ∷ [])
+    -- M-103: of one load that runs, and where it stands; at the room that is due, and with a byte less
+    ∷ shows millResult twinBook twinSheet 15 "09000000010101\n"
+    ∷ shows millResult twinBook twinSheet 14 "FF0B0000\n"
+    ∷ shows millResult twinBook standingSheet 11 "0900000000\n"
+    ∷ shows supplyResult twinBook twinSheet 22 "FF0B0000\n"
+    -- M-103: of two books with the same sums and limit the supply company sees the same
+    ∷ shows supplyResult twinBook twinSheet 23 "050000000900000001000A\n"
+    ∷ shows supplyResult exampleBook exampleSheet 23 "050000000900000001000A\n"
+    -- M-103, two faults: 13 comes before 11, and 1 before 13
+    ∷ shows millResult twinBook [] 0 "FF0D0000\n"
+    ∷ shows supplyResult twinBook [] 0 "FF0D0000\n"
+    ∷ shows supplyResult [] [] 0 "FF010001\n"
+    -- M-103: the lowest number first, at its level
+    ∷ shows millResult levelsBook (levelsSheet "000201") 19 "090000000002020301\n"
+    -- M-101, where load 1 names 3: all start, the lowest of those ready first; highest first would be 3, 2, 1
+    ∷ orders [] (1 ∷ 2 ∷ 3 ∷ []) (3 ∷ 0 ∷ 0 ∷ []) 3 (0 ∷ 3 ∷ 0 ∷ 2 ∷ 3 ∷ 1 ∷ [])
+    -- M-101: load 3 runs already, so load 2, which names it, is ready at once
+    ∷ orders (3 ∷ []) (1 ∷ 2 ∷ 3 ∷ []) (2 ∷ 3 ∷ 0 ∷ []) 24 (0 ∷ 2 ∷ 0 ∷ 2 ∷ 1 ∷ [])
+    -- M-101: loads 1 and 2 stop, load 3 starts
+    ∷ orders (1 ∷ 2 ∷ []) (3 ∷ []) (0 ∷ 0 ∷ 0 ∷ []) 1 (0 ∷ 1 ∷ 2 ∷ 3 ∷ [])
+    -- M-101: an order of nothing fits a buffer of 0 bytes; one of two does not fit a buffer of 1
+    ∷ orders (1 ∷ 3 ∷ []) (1 ∷ 3 ∷ []) (3 ∷ 3 ∷ 0 ∷ []) 0 (0 ∷ 0 ∷ 0 ∷ [])
+    ∷ orders [] (1 ∷ 2 ∷ []) (2 ∷ 0 ∷ 0 ∷ []) 1 (11 ∷ 0 ∷ [])
+    -- M-101, 15: a name too few, one too many, a load's own number, a lower one, and one above N, though no load starts
+    ∷ orders [] [] (0 ∷ 0 ∷ []) 0 (15 ∷ 0 ∷ [])
+    ∷ orders [] [] (0 ∷ 0 ∷ 0 ∷ 0 ∷ []) 0 (15 ∷ 0 ∷ [])
+    ∷ orders [] [] (0 ∷ 2 ∷ 0 ∷ []) 0 (15 ∷ 0 ∷ [])
+    ∷ orders [] [] (0 ∷ 0 ∷ 1 ∷ []) 0 (15 ∷ 0 ∷ [])
+    ∷ orders [] [] (4 ∷ 0 ∷ 0 ∷ []) 0 (15 ∷ 0 ∷ [])
+    -- M-101, 16: the named load stands in both sheets, or stops; but not where the load that names it runs already
+    ∷ orders [] (1 ∷ []) (2 ∷ 0 ∷ 0 ∷ []) 1 (16 ∷ 0 ∷ [])
+    ∷ orders (2 ∷ []) (1 ∷ []) (2 ∷ 0 ∷ 0 ∷ []) 1 (16 ∷ 0 ∷ [])
+    ∷ orders (1 ∷ 2 ∷ []) (1 ∷ []) (2 ∷ 0 ∷ 0 ∷ []) 0 (0 ∷ 0 ∷ 1 ∷ [])
+    -- M-101, two faults: 15 before 16, and 16 before 11
+    ∷ orders [] (1 ∷ []) (2 ∷ 2 ∷ 0 ∷ []) 1 (15 ∷ 0 ∷ [])
+    ∷ orders [] (1 ∷ []) (2 ∷ 0 ∷ 0 ∷ []) 0 (16 ∷ 0 ∷ [])
     -- M-101: load 1 stops, load 2 changes its level, load 3 starts
     ∷ ordersFrom "010100" "000201" (0 ∷ 0 ∷ 0 ∷ []) 1 (0 ∷ 1 ∷ 1 ∷ 3 ∷ [])
     -- M-101, two faults: 13 of either sheet comes before 15
@@ -242,10 +284,20 @@ rows =
     ∷ charges fullBook fullSheet (65535 ∷ 65535 ∷ 65535 ∷ 65535 ∷ []) (0 ∷ 0 ∷ 10307606940 ∷ [])
     ∷ []
 
-pub table-holds : all holds rows ≡ true
-unfolding holds rows programOutput refusalLine plannerResult planSheet fittingBook sizeRules
+plan-rows-hold : all holds planRows ≡ true
+unfolding holds planRows programOutput refusalLine plannerResult planSheet fittingBook sizeRules
     readBook readLoads headerRules loadRules someExceeds optionStart first isDigit digitValue digit valueFrom field digits signed unsigned lineLength
     slotsOf plan bestAdmitted cells trials reachedCount sheetBytes firstLine slotLines slotSums slotLine numbersOf quickResult quickSheet quickChoice takeIfFits sizeOf optionOne
-    chargeResult sheetCharge choiceCharge chargeOf rounded sheetChoice
+plan-rows-hold = refl
+
+sheet-rows-hold : all holds sheetRows ≡ true
+unfolding holds sheetRows refusalLine
+    readBook readLoads headerRules loadRules someExceeds optionStart first isDigit digitValue digit valueFrom field digits signed unsigned lineLength
+    sheetBytes firstLine slotLines slotSums slotLine numbersOf sheetChoice
+    chargeResult sheetCharge choiceCharge chargeOf rounded
+    accepted shown runningLoads numberAndLevel millLine millResult supplyView supplyResult
     orderResult sheetsOrder loadsOrder starting runningMask andNot startCount wrongNames someBlocked left ready startNext startedAfter startOrder ones onesIn
-table-holds = refl
+sheet-rows-hold = refl
+
+pub table-holds : all holds (planRows ++ sheetRows) ≡ true
+table-holds = all-join holds planRows sheetRows ∙ ap₂ _&&_ plan-rows-hold sheet-rows-hold

@@ -1,11 +1,13 @@
--- What a call answers and leaves: of equal results the same, and of a refusal the buffer as it was.
+-- What a call answers and leaves: of equal results the same, of a refusal the buffer as it was, and in the buffer the bytes that it writes.
 -- Assumes nothing.
-use mathlib.Core.Path.{_≡_, sym, ap, _∙_}
-use mathlib.Core.List.{List}
+use mathlib.Core.Path.{_≡_, refl, sym, ap, ap₂, _∙_}
+use mathlib.Core.List.{List, []}
 use Prim.Native.Nat.{ℕ}
+use lib.ListN.{length, take, drop}
+use lib.Seq.{take-at}
 use Rattle.model.specs.declared.Answer.{Answer}
 use Rattle.model.specs.declared.Refusal.{Refusal}
-use Rattle.model.specs.Refusals.{Result, refused}
+use Rattle.model.specs.Refusals.{Result, refused, done}
 use Rattle.model.specs.Answers.{Output, refusalAnswer, answerOf, bufferAfter, Writes}
 
 -- of equal results the same is written
@@ -17,3 +19,15 @@ pub refused-writes : (x : Result Output) (r : Refusal) (line : ℕ) (before : Li
     → Writes x before before a
 refused-writes x r line before a e q =
     record { answers = e ∙ ap answerOf (sym q); leaves = ap (λ y. bufferAfter y before) (sym q) }
+
+-- the bytes that a result writes; a refusal writes none
+abbrev pub writtenOf : Result Output → List ℕ
+writtenOf (refused r line) = []
+writtenOf (done x) = x .bytes
+
+-- as many as the answer says are found in the buffer
+pub bytes-left : (x : Result Output) {before after : List ℕ} {a : Answer} → Writes x before after a → take (a .bytes) after ≡ writtenOf x
+bytes-left (refused r line) {after = after} w = ap (λ (b : Answer). take (b .bytes) after) (w .answers)
+bytes-left (done x) {before = before} w =
+    ap₂ (λ (b : Answer) l. take (b .bytes) l) (w .answers) (w .leaves)
+    ∙ take-at (x .bytes) (drop (length (x .bytes)) before) (length (x .bytes)) refl

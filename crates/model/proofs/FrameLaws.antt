@@ -1,5 +1,5 @@
--- Frames: digits that are written are read back, a number of n digits is below 16^n, one of 16 bits has |Q| ≤ 2^15, and a line lies within its
--- bytes.
+-- Frames: digits that are written are read back, a number of n digits is below 16^n, one of 16 bits has |Q| ≤ 2^15, a word of 32 bits is that of one
+-- number, and a line lies within its bytes.
 -- Assumes nothing.
 use mathlib.Core.Path.{_≡_, refl, sym, ap, _∙_}
 use mathlib.Core.Bool.{Bool, true, false, cond}
@@ -10,12 +10,12 @@ use native.Mathlib.Nat.{pow-zero, pow-succ', mod-lt, mod-eq-of-lt, le-trans, mul
 use native.Mathlib.Omega.{arith}
 use lib.Arith.{mod-mul}
 use lib.Dec.{eqb}
-use lib.IntN.{natAbs}
+use lib.IntN.{ℤ, pos, negsuc, natAbs}
 use lib.ListN.{length, take, drop, length-take}
-use lib.Seq.{take-at}
+use lib.Seq.{take-at, drop-at}
 use borrow.Author.Tests.{lt-ltb, le-ltb, le-leb, lt-leb}
 use Rattle.model.specs.Lists.{within}
-use Rattle.model.specs.Frames.{digit, digitValue, digits, valueFrom, field, signed, lineLength}
+use Rattle.model.specs.Frames.{digit, digitValue, digits, valueFrom, field, signed, unsigned, lineLength}
 use Rattle.model.proofs.ListLaws.{within-is}
 use Rattle.model.proofs.IntegerLaws.{split, abs-sub}
 
@@ -103,6 +103,28 @@ field-back bytes rest at n y e h =
     ap (λ r. valueFrom 0 (take n r)) e
     ∙ ap (valueFrom 0) (take-at (digits n y) rest n (length-digits n y))
     ∙ value-back n y h
+
+-- of two numbers of n digits, each followed by other bytes, the same bytes are the same number and the same rest
+pub digits-front : (n x y : ℕ) (xs ys : List ℕ) → x < 16 ^ n → y < 16 ^ n → digits n x ++ xs ≡ digits n y ++ ys → (x ≡ y) × (xs ≡ ys)
+digits-front n x y xs ys h k e = (
+  sym (value-back n x h)
+      ∙ ap (valueFrom 0) (sym (take-at (digits n x) xs n (length-digits n x)) ∙ ap (take n) e ∙ take-at (digits n y) ys n (length-digits n y))
+      ∙ value-back n y k,
+  sym (drop-at (digits n x) xs n (length-digits n x)) ∙ ap (drop n) e ∙ drop-at (digits n y) ys n (length-digits n y),
+)
+
+-- the word of a number of 32 bits, and that no other number has it
+pub word-below : (x : ℤ) → natAbs x < 2 ^ 31 → unsigned 32 x < 16 ^ 8
+unfolding unsigned
+word-below (pos n) h = omega arith
+word-below (negsuc n) h = omega arith
+
+pub word-back : (x y : ℤ) → natAbs x < 2 ^ 31 → natAbs y < 2 ^ 31 → unsigned 32 x ≡ unsigned 32 y → x ≡ y
+unfolding unsigned
+word-back (pos n) (pos m) h k e = ap {B = ℤ} pos e
+word-back (pos n) (negsuc m) h k e = absurd (omega arith)
+word-back (negsuc n) (pos m) h k e = absurd (omega arith)
+word-back (negsuc n) (negsuc m) h k e = let same : n ≡ m = omega arith in ap {B = ℤ} negsuc same
 
 -- 16 bits as two's complement
 pub signed-small : (x : ℕ) → x < 16 ^ 4 → natAbs (signed 16 x) ≤ 32768

@@ -33,4 +33,5 @@ pub mod MaskLaws
 pub mod StartLaws
 pub mod ReadingLaws
 pub mod OrderKeptLaws
+pub mod ViewLaws
 pub mod AcceptanceTable

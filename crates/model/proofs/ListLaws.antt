@@ -2,7 +2,7 @@
 -- Assumes nothing.
 use mathlib.Core.Path.{_≡_, refl, sym, ap, ap₂, _∙_, subst}
 use mathlib.Core.Logic.{inl, inr}
-use mathlib.Core.Bool.{Bool, true, false, not, _&&_, _||_, false≢true}
+use mathlib.Core.Bool.{Bool, true, false, cond, not, _&&_, _||_, false≢true}
 use mathlib.Core.List.{List, [], _∷_, _++_, map}
 use Prim.Native.Nat.{ℕ, zero, suc, _+_, _*_, _<_, _≤_}
 use native.Mathlib.Nat.{le-of-suc-le-suc}
@@ -85,6 +85,14 @@ module _ {A : Type 0} where
   pub keep-none : (p : A → Bool) (xs : List A) → Every (λ x. p x ≡ false) xs → keep p xs ≡ []
   keep-none p [] h = refl
   keep-none p (x ∷ xs) h = ap (λ t. keepIf t x (keep p xs)) (h .0) ∙ keep-none p xs (h .1)
+
+  pub all-join : (p : A → Bool) (xs ys : List A) → all p (xs ++ ys) ≡ (all p xs && all p ys)
+  all-join p [] ys = refl
+  all-join p (x ∷ xs) ys = go (p x) (all-join p xs ys)
+    where
+      go : (t : Bool) → all p (xs ++ ys) ≡ (all p xs && all p ys) → (t && all p (xs ++ ys)) ≡ ((t && all p xs) && all p ys)
+      go true e = e
+      go false e = refl
 
   pub any-join : (p : A → Bool) (xs ys : List A) → any p (xs ++ ys) ≡ (any p xs || any p ys)
   any-join p [] ys = refl
@@ -230,6 +238,16 @@ below-same f g (suc n) h = ap₂ _+_ (below-same f g n (λ s l. h s (omega arith
 pub length-concat : {A B : Type 0} (f : A → List B) (k : ℕ) → ((x : A) → length (f x) ≡ k) → (xs : List A) → length (concat (map f xs)) ≡ k * length xs
 length-concat f k h [] = omega arith
 length-concat f k h (x ∷ xs) = length-append (f x) (concat (map f xs)) ∙ (omega (arith, h x, length-concat f k h xs))
+
+-- of the elements that pass a test, one after the other
+pub concat-keep : {A B : Type 0} (p : A → Bool) (f : A → List B) (xs : List A) → concat (map f (keep p xs)) ≡ concat (map (λ x. cond (p x) (f x) []) xs)
+concat-keep p f [] = refl
+concat-keep {B = B} p f (x ∷ xs) = go (p x) (concat-keep p f xs)
+  where
+    go : (t : Bool) → concat (map f (keep p xs)) ≡ concat (map (λ y. cond (p y) (f y) []) xs)
+        → concat (map f (keepIf t x (keep p xs))) ≡ cond t (f x) [] ++ concat (map (λ y. cond (p y) (f y) []) xs)
+    go true e = ap (λ (r : List B). f x ++ r) e
+    go false e = e
 
 pub same-eq : (xs ys : List ℕ) → sameLists eqb xs ys ≡ true → xs ≡ ys
 same-eq [] [] e = refl

@@ -1,19 +1,20 @@
 -- M-101 of the bytes: what is kept wherever a call gives an order.
 -- Assumes nothing.
-use mathlib.Core.Path.{_≡_, refl, sym, ap, ap₂, _∙_, subst}
+use mathlib.Core.Path.{_≡_, refl, sym, ap, _∙_, subst}
 use mathlib.Core.List.{List}
 use Prim.Native.Nat.{ℕ, _≤_}
-use lib.ListN.{length, take, drop}
-use lib.Seq.{take-at}
+use lib.ListN.{length, take}
 use Rattle.model.specs.declared.Answer.{Answer}
 use Rattle.model.specs.declared.OrderAnswer.{OrderAnswer}
 use Rattle.model.specs.Bounds.{mostLoads}
 use Rattle.model.specs.Refusals.{Result, refused, done, first}
+use Rattle.model.specs.Answers.{bytesOnly}
 use Rattle.model.specs.Book.{readBook}
 use Rattle.model.specs.Choice.{runningOn}
 use Rattle.model.specs.SheetReader.{sheetChoice}
 use Rattle.model.specs.Order.{startOrder, orderRules, OrderData, orderData, loadsOrder, sheetsOrder, orderResult, WritesOrder, Ordered, OrderKept}
 use Rattle.model.proofs.RefusalLaws.{done-same, checked-done, then-done, first-passed, number-some}
+use Rattle.model.proofs.AnswerLaws.{bytes-left}
 use Rattle.model.proofs.ValidLaws.{book-valid}
 use Rattle.model.proofs.MaskLaws.{starts-counted}
 use Rattle.model.proofs.StartLaws.{order-kept}
@@ -35,9 +36,7 @@ module _ (book running planned names : List ℕ) (room : ℕ) {before after : Li
       let none = first-passed (orderRules n old new names room) (passed .0) in
       let is : orderData n old new names ≡ x = done-same (orderData n old new names) x (passed .1) in
       let written : startOrder n old new names ≡ take (r .answer .bytes) after
-      = ap (λ (y : OrderData). y .order) is
-      ∙ sym (take-at (x .order) (drop (length (x .order)) before) (length (x .order)) refl)
-      ∙ ap₂ take (sym (ap (λ (a : Answer). a .bytes) (w .writes .answers))) (sym (w .writes .leaves)) in
+      = ap (λ (y : OrderData). y .order) is ∙ sym (bytes-left (done (bytesOnly (x .order))) (w .writes)) in
       let few : n ≤ mostLoads = book-valid book b (read .1) .loads-few in
       record {
         b = b;

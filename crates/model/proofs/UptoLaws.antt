@@ -108,16 +108,17 @@ module _ {A : Type 0} (f : ℕ → A) where
         ∙ any-join p (map f (upto n)) (f n ∷ [])
         ∙ ap₂ (λ t u. t || (u || false)) a b
 
--- one element changed
+-- two functions that agree, and one element changed
 module _ {A : Type 0} (f g : ℕ → A) where
-  map-same : (i n : ℕ) → ((j : ℕ) → i ≤ j → f j ≡ g j) → map f (uptoFrom i n) ≡ map g (uptoFrom i n)
+  pub map-same : (i n : ℕ) → ((j : ℕ) → i ≤ j → j < i + n → f j ≡ g j) → map f (uptoFrom i n) ≡ map g (uptoFrom i n)
   map-same i zero h = refl
-  map-same i (suc n) h = ap₂ {C = List A} (λ x r. x ∷ r) (h i (omega arith)) (map-same (suc i) n (λ j l. h j (omega arith)))
+  map-same i (suc n) h =
+      ap₂ {C = List A} (λ x r. x ∷ r) (h i (omega arith) (omega arith)) (map-same (suc i) n (λ j l m. h j (omega arith) (omega arith)))
 
   set-from : (i n k : ℕ) → k < n → ((j : ℕ) → (j ≡ i + k → ⊥) → f j ≡ g j) → set (map f (uptoFrom i n)) k (g (i + k)) ≡ map g (uptoFrom i n)
   set-from i zero k h e = absurd (not-suc-le-zero h)
   set-from i (suc n) zero h e =
-      ap₂ {C = List A} (λ x r. x ∷ r) (ap g (add-zero i)) (map-same (suc i) n (λ j l. e j (λ q. omega arith)))
+      ap₂ {C = List A} (λ x r. x ∷ r) (ap g (add-zero i)) (map-same (suc i) n (λ j l m. e j (λ q. omega arith)))
   set-from i (suc n) (suc k) h e =
       ap₂ {C = List A} (λ x r. x ∷ r) (e i (λ q. omega arith))
       (ap (λ j. set (map f (uptoFrom (suc i) n)) k (g j)) (suc-across i k)

@@ -24,7 +24,7 @@ words-of-requires c κs =
 write-slots-requires : tie.Need-write-slots-requires
 write-slots-requires c κs =
     let s = c .before .before .before .before .before .before .before in
-    (held-four (s .args .book) (s .pre .0), omega (arith, s .pre .1 .1, held-slots (s .args .book) (s .pre .0)))
+    (omega (arith, held-four (s .args .book) (s .pre .0)), omega (arith, s .pre .1 .1, held-slots (s .args .book) (s .pre .0)))
 
 same-length : tie.Need-same-length
 same-length c = search needs

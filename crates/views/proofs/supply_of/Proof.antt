@@ -1,0 +1,62 @@
+-- `views::supply_of` meets its contract: refusal 11, or the slot lines. Assumes nothing.
+use native.Mathlib.Omega.{arith}
+use borrow.Author.Needs.{needs}
+use Rattle.model.specs.Sheet.{slotSums, slotLines}
+use Rattle.model.specs.Values.{choiceOf, problemOf}
+use Rattle.model.specs.Views.{supplyView}
+use Rattle.model.proofs.HeldLaws.{held-slots, held-four}
+use Rattle.model.proofs.SheetLaws.{length-slot-lines}
+use Rattle.views.proofs.ReadLaws.{shown-refused, shown-writes}
+use Rattle.views.proofs.supply_of.Statement.{statement}
+use Rattle.views.proofs.supply_of.Tie as tie
+
+mul-bytes : tie.Need-mul-bytes
+mul-bytes c =
+    let s = c .before .before in
+    omega (arith, held-four (s .args .book) (s .pre .0))
+
+refusal-requires : tie.Need-refusal-requires
+refusal-requires c κs = search needs
+
+returns : tie.Need-returns
+unfolding supplyView
+returns c =
+    let s = c .before .before .before .before in
+    let a = s .args in
+    let b = problemOf (a .book) in
+    shown-refused (slotLines (slotSums b (choiceOf b (a .picks)))) (a .view .now) _ (c .refusal .ensures)
+    (omega (arith, c .before .if1 .taken, length-slot-lines b (choiceOf b (a .picks)), held-slots (a .book) (s .pre .0)))
+
+write-slot-lines-requires : tie.Need-write-slot-lines-requires
+write-slot-lines-requires c κs =
+    let s = c .before .before .before .before in
+    (s .pre .0, (s .pre .1, omega (arith, c .before .if1 .left, held-slots (s .args .book) (s .pre .0))))
+
+success-requires : tie.Need-success-requires
+success-requires c κs = search needs
+
+same-length : tie.Need-same-length
+same-length c = search needs
+
+returns-2 : tie.Need-returns-2
+unfolding supplyView
+returns-2 c =
+    let s = c .before .before .before .before .before .before .before .before in
+    let a = s .args in
+    let b = problemOf (a .book) in
+    let long = length-slot-lines b (choiceOf b (a .picks)) in
+    let slots = held-slots (a .book) (s .pre .0) in
+    shown-writes (slotLines (slotSums b (choiceOf b (a .picks)))) (a .view .now) _ _ _ (c .before .before .before .write-slot-lines .ensures)
+    (omega (arith, long, slots)) (c .success .ensures) (omega (arith, long, slots, c .before .before .before .before .before .if1 .left))
+
+pub supply-of-spec : {M : Type 1} → statement M
+supply-of-spec =
+    tie.close
+    (tie.spec
+    mul-bytes
+    refusal-requires
+    returns
+    write-slot-lines-requires
+    success-requires
+    same-length
+    returns-2)
