@@ -8,28 +8,30 @@
  *   jadeshuttle_read_sheet  the sheet reader: whether a sheet belongs to a book
  *   jadeshuttle_charge      the charge: what a sheet's energy costs
  *   jadeshuttle_order       the order of starting: in which a new sheet's loads start
+ *   jadeshuttle_mill_view   the mill's view: a sheet's worth, and what runs
+ *   jadeshuttle_supply_view the supply company's view: a sheet's slot lines alone
  *
  * docs/HANDBOOK.md describes the book and the sheet field by field, what the
- * limits mean for a relay, how large a work area a book needs, what a price is, and
- * which loads to name for an order.
+ * limits mean for a relay, how large a work area a book needs, what a price is,
+ * which loads to name for an order, and what each party learns from its view.
  *
  * LINKING  Name target/staticlib/libjadeshuttle.a after your own files. It calls
  * memcpy and memset of the C library, and nothing else.
  *
  * MEMORY THAT YOU LEND
  *   - A call uses the memory only until it returns. It keeps no pointer.
- *   - Lengths are in elements: bytes for a book, a sheet, names and an order, 64-bit
- *     words for the work area, 16-bit numbers for prices.
+ *   - Lengths are in elements: bytes for a book, a sheet, names, an order and a view,
+ *     64-bit words for the work area, 16-bit numbers for prices.
  *   - No pointer may be NULL, not even where its length is 0. `work` is aligned
  *     as a uint64_t is, `prices` as a uint16_t.
  *   - All the bytes that a length names are yours to lend. No length names more
  *     than PTRDIFF_MAX bytes.
  *   - What is written may overlap nothing else: `work` and the planners' `sheet`
- *     lie apart from each other and from `book`, and `order` from all that the call
- *     reads. What is only read may overlap, so all that the sheet reader and the
- *     charge take.
- *   - `work`, the planners' `sheet` and `order` need no first values. No answer
- *     depends on them.
+ *     lie apart from each other and from `book`, and `order` and `view` from all that
+ *     the call reads. What is only read may overlap, so all that the sheet reader and
+ *     the charge take.
+ *   - `work`, the planners' `sheet`, `order` and `view` need no first values. No
+ *     answer depends on them.
  *
  * The calls cannot test these points. Where one is broken, nothing is promised.
  * Of the values in book, sheet, prices and names, nothing is asked: every input
@@ -38,7 +40,7 @@
  * WHAT A CALL LEAVES BEHIND
  *   - With a sheet (number 0): the first `bytes` bytes of the sheet buffer are the
  *     sheet. It is no C string: no 0 byte follows. The rest of the buffer keeps
- *     its values. The same holds for an order and its buffer.
+ *     its values. The same holds for an order or a view and its buffer.
  *   - With a refusal: no byte of the buffer changes.
  *   - The work area: with a sheet or refusal 12, the first 4 x cells words hold
  *     anything, and the words past them keep their values. With refusals 1 to 11
@@ -46,12 +48,12 @@
  *   - The book never changes, nor does anything else that a call only reads.
  *
  * THREADS  There is no state. Calls may run at the same time in several threads,
- * as long as each has its own memory to write: `work`, the planners' `sheet`, and
- * `order`. What is only read may be shared.
+ * as long as each has its own memory to write: `work`, the planners' `sheet`,
+ * `order`, and `view`. What is only read may be shared.
  *
  * STACK, HEAP  Nothing is allocated. Stack used by a call, as measured on x86-64
- * Linux: planner up to 79 KiB, quick planner up to 55 KiB, sheet reader, charge and
- * order up to 34 KiB. Leave 128 KiB of stack for a call.
+ * Linux: planner up to 79 KiB, quick planner up to 55 KiB, sheet reader, charge,
+ * order and views up to 34 KiB. Leave 128 KiB of stack for a call.
  *
  * ERRORS  A call always returns. It prints nothing, and sets no errno.
  */
@@ -69,15 +71,16 @@ extern "C" {
 #define JADESHUTTLE_BOOK_MAX 2745     /* bytes of the longest book: T = 4, N = 24, three levels each */
 #define JADESHUTTLE_SHEET_MAX 159     /* bytes of the longest sheet: 19 + 2N + 23T for N = 24, T = 4 */
 #define JADESHUTTLE_ORDER_MAX 24      /* bytes of the longest order: N = 24 */
+#define JADESHUTTLE_VIEW_MAX 107      /* bytes of the longest view: the mill's, 11 + 4N for N = 24 */
 #define JADESHUTTLE_CELLS_MAX 1048576 /* cells; a book with more is refused as oversize */
 #define JADESHUTTLE_WORK_MAX 4194304  /* words of the work area for that many cells: 4 a cell, 32 MiB */
 
 /*
  * What `number` says. Lines are read in order, and on each line 1 to 7 are tried
- * in this order, as far as they concern it; then 8 to 16, but an order's 11 comes
- * after its 16. The first that applies is given. `line` is the number of the line
- * in the book, from 1, for 1 to 8; it is 0 for success and from 9 on. Each comment
- * begins with the handbook's word.
+ * in this order, as far as they concern it; then 8 to 16, but the 11 of an order or
+ * a view comes last. The first that applies is given. `line` is the number of the
+ * line in the book, from 1, for 1 to 8; it is 0 for success and from 9 on. Each
+ * comment begins with the handbook's word.
  */
 enum jadeshuttle_number {
     JADESHUTTLE_SUCCESS = 0,
@@ -93,11 +96,11 @@ enum jadeshuttle_number {
     /* The planner only. */
     JADESHUTTLE_TOO_MANY_CELLS = 9,  /* oversize: cells over 1,048,576 */
     JADESHUTTLE_WORK_TOO_SMALL = 10, /* cramped: work area under 4 x cells words */
-    /* The planner, the quick planner and the order. */
-    JADESHUTTLE_BUFFER_TOO_SMALL = 11, /* no sheet: buffer shorter than the sheet, or than the order */
+    /* The planner, the quick planner, the order and the views. */
+    JADESHUTTLE_BUFFER_TOO_SMALL = 11, /* no sheet: buffer shorter than the sheet, the order or the view */
     /* The planner only. */
     JADESHUTTLE_BUDGET_EXCEEDED = 12, /* spent: trials over the budget */
-    /* The sheet reader, the charge and the order. */
+    /* The sheet reader, the charge, the order and the views. */
     JADESHUTTLE_FOREIGN_SHEET = 13, /* foreign: no choice and no trials number give this sheet for this book */
     /* The charge only. */
     JADESHUTTLE_WRONG_PRICE_COUNT = 14, /* prices: their number is not T */
@@ -106,13 +109,13 @@ enum jadeshuttle_number {
     JADESHUTTLE_NAMED_LOAD_STANDS = 16  /* blocked: a load that starts names one that stands in the new sheet */
 };
 
-/* What the planners answer. With a refusal, bytes, worth and trials are 0. */
+/* What the planners and the views answer. With a refusal, bytes, worth and trials are 0. */
 typedef struct jadeshuttle_answer {
     uint64_t number; /* 0, or the refusal's number */
     uint64_t line;   /* the refused line of the book, or 0 */
-    uint64_t bytes;  /* bytes of the sheet that were written */
-    uint64_t worth;  /* worth of the sheet's choice */
-    uint64_t trials; /* the book's trials; for the quick planner, N */
+    uint64_t bytes;  /* bytes of the sheet or the view that were written */
+    uint64_t worth;  /* worth of the sheet's choice; for a view, 0 */
+    uint64_t trials; /* the book's trials; for the quick planner, N; for a view, 0 */
 } jadeshuttle_answer;
 
 /* What the sheet reader answers. With a refusal, all after line is 0. */
@@ -220,6 +223,35 @@ jadeshuttle_order_answer jadeshuttle_order(const uint8_t *book, size_t book_len,
                                            const uint8_t *planned, size_t planned_len,
                                            const uint8_t *names, size_t names_len,
                                            uint8_t *order, size_t order_len);
+
+/*
+ * The mill's view of a sheet. Writes one line: 09, the worth (8 digits), then number
+ * and level (2 digits each) of every load that runs, lowest number first; all
+ * hexadecimal, ended by LF. That is 11 bytes, and 4 for each load that runs. The
+ * sheet has to belong to the book, as for the sheet reader. Gives 1 to 8 for the
+ * book, 13, and last 11.
+ */
+jadeshuttle_answer jadeshuttle_mill_view(const uint8_t *book, size_t book_len,
+                                         const uint8_t *sheet, size_t sheet_len,
+                                         uint8_t *view, size_t view_len);
+
+/*
+ * The supply company's view of a sheet. Writes the sheet's slot lines, those of kind
+ * 05, as they stand there: 23T bytes, at most 92. The sheet has to belong to the
+ * book, and refusals come as for the mill's view.
+ *
+ * Of every two accepted sheets (no 1 to 8, no 13), of one book or of two:
+ *   - with equal sums and limits in the slots and buffers of equal length, answer and
+ *     written bytes are the same, though loads, worths and trials differ;
+ *   - with other sums or limits the bytes differ, where both views fit.
+ *
+ * That does not cover what a refusal tells about book and sheet, the time that a call
+ * takes, or the bytes past the view. So call it at the mill, and send the supply
+ * company only the `bytes` bytes of a view, and no refusal.
+ */
+jadeshuttle_answer jadeshuttle_supply_view(const uint8_t *book, size_t book_len,
+                                           const uint8_t *sheet, size_t sheet_len,
+                                           uint8_t *view, size_t view_len);
 
 #ifdef __cplusplus
 }

@@ -249,7 +249,7 @@ pub fn refusals(model: &Source) -> Parsed<Vec<(String, u64)>> {
 }
 
 /// The sizes that are large enough for every book, computed from the constants of the source's `Book`.
-pub fn sizes(model: &Source) -> Parsed<[(&'static str, u64); 5]> {
+pub fn sizes(model: &Source) -> Parsed<[(&'static str, u64); 6]> {
     let bounds = bounds(model)?;
     let bound = |name: &str| {
         let found = bounds.get(name).copied();
@@ -258,10 +258,12 @@ pub fn sizes(model: &Source) -> Parsed<[(&'static str, u64); 5]> {
     let slots = bound("SLOTS")?;
     let header = 16 + 4 * slots + 1;
     let load = 4 + bound("OPTIONS")? * (4 + 8 * slots) + 1;
+    let (mill_view, supply_view) = (11 + 4 * bound("LOADS")?, 23 * slots);
     Ok([
         ("BOOK_MAX", header + bound("LOADS")? * load),
         ("SHEET_MAX", bound("SHEET")?),
         ("ORDER_MAX", bound("LOADS")?),
+        ("VIEW_MAX", mill_view.max(supply_view)),
         ("CELLS_MAX", bound("CELLS")?),
         ("WORK_MAX", 4 * bound("CELLS")?),
     ])

@@ -56,8 +56,8 @@ impl<T: Copy + PartialEq> Lent<T> {
     }
 }
 
-/// For the self-check: changes of single entries, which a comparison has to see.
-impl<T: BitXorAssign + From<u8>> Lent<T> {
+/// For the self-check: changes, which a comparison has to see.
+impl<T: BitXorAssign + From<u8> + Copy> Lent<T> {
     /// Counted from the part's start.
     pub fn flip(&mut self, at: isize) {
         self.now[self.start.wrapping_add_signed(at)] ^= T::from(1);
@@ -66,6 +66,11 @@ impl<T: BitXorAssign + From<u8>> Lent<T> {
     /// Counted from the part's end.
     pub fn flip_from_end(&mut self, at: isize) {
         self.now[self.end.wrapping_add_signed(at)] ^= T::from(1);
+    }
+
+    /// Writes entries at the part's start.
+    pub fn put(&mut self, entries: &[T]) {
+        self.now[self.start..][..entries.len()].copy_from_slice(entries);
     }
 }
 
@@ -76,9 +81,12 @@ pub enum Function {
     ReadSheet,
     Charge,
     Order,
+    MillView,
+    SupplyView,
 }
 
-/// A function and what it is given; what it does not take is empty. `sheet` is a sheet that is read, or the buffer.
+/// A function and what it is given; what it does not take is empty. `sheet` is a sheet that is read, or the buffer;
+/// `planned` is the order's new sheet, or the sheet that a view shows.
 #[derive(Clone, Copy)]
 pub struct Input<'a> {
     pub function: Function,
@@ -137,6 +145,21 @@ impl<'a> Input<'a> {
             ..Input::quick(book, buffer)
         }
     }
+
+    pub fn mill_view(book: &'a [u8], shown: &'a [u8], buffer: &'a [u8]) -> Input<'a> {
+        Input {
+            function: Function::MillView,
+            planned: shown,
+            ..Input::quick(book, buffer)
+        }
+    }
+
+    pub fn supply_view(book: &'a [u8], shown: &'a [u8], buffer: &'a [u8]) -> Input<'a> {
+        Input {
+            function: Function::SupplyView,
+            ..Input::mill_view(book, shown, buffer)
+        }
+    }
 }
 
 /// A call that was made, and all memory that it could reach.
@@ -172,6 +195,8 @@ impl Call {
                 let read = [&book, &running, &planned, &names].map(Lent::part);
                 crate::order(read[0], read[1], read[2], read[3], sheet.part_mut()).into()
             }
+            Function::MillView => crate::mill_view(book.part(), planned.part(), sheet.part_mut()).into(),
+            Function::SupplyView => crate::supply_view(book.part(), planned.part(), sheet.part_mut()).into(),
         };
         Call {
             function: input.function,
@@ -213,7 +238,7 @@ impl Call {
             ("work area", self.work.change(expected.free_words)),
             ("prices", self.prices.change(0)),
             ("running sheet", self.running.change(0)),
-            ("new sheet", self.planned.change(0)),
+            ("new or shown sheet", self.planned.change(0)),
             ("names", self.names.change(0)),
         ];
         for (name, change) in changes {
@@ -237,6 +262,9 @@ impl Call {
                 "{start}, running \"{running}\", planned \"{planned}\", names {:?}, buffer of {bytes}",
                 self.names.part()
             ),
+            Function::MillView | Function::SupplyView => {
+                format!("{start}, sheet \"{planned}\", buffer of {bytes}")
+            }
         }
     }
 }

@@ -1,4 +1,4 @@
-//! Random valid books, and the bytes of a book.
+//! Random valid books, the twin of a book, the longest book, and the bytes of a book.
 
 use crate::random::Random;
 use crate::reference::book::{Book, Level, Load};
@@ -216,6 +216,56 @@ fn like_the_last(random: &mut Random, book: &Book, drawn: Load) -> Load {
         powers.for_each(|(_, q)| *q = (-*q).min(32_767));
     }
     load
+}
+
+/// Another book with the same limits, and a choice of it with the same sums in every slot: two loads carry what each running
+/// load does, and one more stands. At most 11 loads may run.
+pub fn twin(random: &mut Random, book: &Book, choice: &[usize]) -> (Book, Vec<usize>) {
+    let mut twin = Book {
+        fineness: random.within(1..=64) as u64,
+        budget: random.word() >> 32,
+        limits: book.limits.clone(),
+        loads: Vec::new(),
+    };
+    for powers in book.chosen(choice).flat_map(|level| halves(&level.powers)) {
+        twin.loads.push(one_level(random, powers));
+    }
+    let mut choice = vec![1; twin.loads.len()];
+    twin.loads.push(one_level(random, vec![(1, 0); book.limits.len()]));
+    choice.push(0);
+    (twin, choice)
+}
+
+/// A load of one level, of any worth.
+fn one_level(random: &mut Random, powers: Vec<(i64, i64)>) -> Load {
+    let worth = random.within(0..=65_535) as u64;
+    Load {
+        levels: vec![Level { worth, powers }],
+    }
+}
+
+/// Powers in two parts. |Q| is rounded as P is, so that |Q| ≤ P holds in both.
+fn halves(powers: &[(i64, i64)]) -> [Vec<(i64, i64)>; 2] {
+    let half = powers.iter().map(|(p, q)| (p / 2, q / 2));
+    let rest = powers.iter().map(|(p, q)| (p - p / 2, q - q / 2));
+    [half.collect(), rest.collect()]
+}
+
+/// A book of four slots and 24 loads of two levels: none has longer sheets and views.
+pub fn longest() -> Book {
+    let level = |worth| Level {
+        worth,
+        powers: vec![(1, 0); 4],
+    };
+    let load = Load {
+        levels: vec![level(1), level(2)],
+    };
+    Book {
+        fineness: 1,
+        budget: 0,
+        limits: vec![24; 4],
+        loads: vec![load; 24],
+    }
 }
 
 /// The bytes of a book.

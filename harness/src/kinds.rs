@@ -19,17 +19,17 @@ pub const KINDS: &[Kind] = &[
     kind("larger grids", 100, larger_grids),
     kind("many loads", 150, many_loads),
     kind("large tables", 20, large_tables),
-    kind("budgets", 700, budgets),
-    kind("work areas", 550, work_areas),
-    kind("sheet buffers", 500, buffers),
-    kind("several shortages", 550, shortages),
+    kind("budgets", 600, budgets),
+    kind("work areas", 450, work_areas),
+    kind("sheet buffers", 450, buffers),
+    kind("several shortages", 450, shortages),
     kind("words of earlier plans", 350, earlier_words),
     kind("oversize books", 350, too_many_cells),
     kind("1,048,576 cells", 2, full_tables),
-    kind("one fault", 800, one_fault),
-    kind("two faults", 600, two_faults),
+    kind("one fault", 750, one_fault),
+    kind("two faults", 500, two_faults),
     kind("truncated books", 900, truncated_books),
-    kind("a byte changed", 1_400, changed_books),
+    kind("a byte changed", 1_500, changed_books),
     kind("bytes inserted, deleted", 300, shifted_books),
     kind("lines exchanged", 200, reordered_books),
     kind("random bytes", 100, random_bytes),
@@ -44,6 +44,9 @@ pub const KINDS: &[Kind] = &[
     kind("orders", 200, orders),
     kind("orders, buffers", 100, order_buffers),
     kind("orders, names", 100, order_names),
+    kind("views", 150, views),
+    kind("views, buffers", 150, view_buffers),
+    kind("views of twins", 100, views_of_twins),
 ];
 
 const fn kind(name: &'static str, share: u64, run: fn(&mut Session)) -> Kind {
@@ -150,10 +153,21 @@ fn all_calls(session: &mut Session, case: &Case) {
     let running = random_sheet(&mut session.random, book);
     let names = names(&mut session.random, &plan.choice, true);
     session.order(case, [&running, &planned], &names, book.loads.len());
+    for (view, need) in views_of(case, &planned) {
+        view(session, case, &planned, need + 1);
+    }
 }
 
 /// The calls on bytes that may be no book.
-const CALLS: [fn(&mut Session, &Case); 5] = [plan_any, quick_any, read_any, charge_any, order_any];
+const CALLS: [fn(&mut Session, &Case); 7] = [
+    plan_any,
+    quick_any,
+    read_any,
+    charge_any,
+    order_any,
+    mill_view_any,
+    supply_view_any,
+];
 
 fn one_call(session: &mut Session, case: &Case) {
     let call = session.random.pick(&CALLS);
@@ -198,6 +212,18 @@ fn order_any(session: &mut Session, case: &Case) {
     let names = names(&mut session.random, &vec![1; loads], false);
     let buffer = session.random.below(25);
     session.order(case, [&running, &planned], &names, buffer);
+}
+
+fn mill_view_any(session: &mut Session, case: &Case) {
+    let sheet = any_sheet(&mut session.random, case);
+    let buffer = session.random.below(120);
+    session.mill_view(case, &sheet, buffer);
+}
+
+fn supply_view_any(session: &mut Session, case: &Case) {
+    let sheet = any_sheet(&mut session.random, case);
+    let buffer = session.random.below(120);
+    session.supply_view(case, &sheet, buffer);
 }
 
 /// A sheet of a book that was read, or else bytes.
@@ -524,5 +550,62 @@ fn order_names(session: &mut Session) {
             .random
             .pick(&[[&running[..], &planned], [&running, foreign], [foreign, &planned]]);
         session.order(&case, sheets, &list, 0);
+    }
+}
+
+/// A call for a view, and the bytes that the view needs.
+type View = (fn(&mut Session, &Case, &[u8], usize), usize);
+
+/// The mill's view of a sheet, and the supply company's.
+fn views_of(case: &Case, sheet: &[u8]) -> [View; 2] {
+    let [mill, supply] = [Case::mill_view, Case::supply_view].map(|view| view(case, sheet, usize::MAX).sheet.len());
+    [(Session::mill_view, mill), (Session::supply_view, supply)]
+}
+
+/// Views of sheets on which no load runs, on which all run at their highest levels, and of any choice. The books are oversize,
+/// so that slots and loads can be many at once; a view does not refuse them.
+fn views(session: &mut Session) {
+    let book = draw::too_many_cells(&mut session.random);
+    let case = case(&book);
+    let standing = vec![0; book.loads.len()];
+    let highest = book.loads.iter().map(|load| load.levels.len()).collect();
+    let any = [(); 3].map(|_| random_choice(&mut session.random, &book));
+    for choice in [standing, highest].iter().chain(&any) {
+        let sheet = sheet::write(&book, choice, session.random.word() >> 32);
+        for (view, need) in views_of(&case, &sheet) {
+            view(session, &case, &sheet, need);
+        }
+    }
+}
+
+/// Buffers around what a view needs, with a sheet of the book and with a byte of it changed, which mostly makes it foreign: 13
+/// comes before 11.
+fn view_buffers(session: &mut Session) {
+    let (case, sheet) = case_and_sheet(session);
+    for (view, need) in views_of(&case, &sheet) {
+        let (below, more) = (session.random.below(need), session.random.below(300));
+        for buffer in [need, need - 1, need + 1, need + more, below, 0] {
+            view(session, &case, &sheet, buffer);
+            let mut sheet = sheet.clone();
+            let (at, style) = (session.random.below(sheet.len()), session.random.below(STYLES));
+            sheet[at] = changed(&mut session.random, sheet[at], style);
+            view(session, &case, &sheet, buffer);
+        }
+    }
+}
+
+/// Two sheets with equal slot sums and limits, though loads, worths and trials differ: the supply company sees the same.
+fn views_of_twins(session: &mut Session) {
+    let random = &mut session.random;
+    let book = draw::book(random, SMALL);
+    let choice = random_choice(random, &book);
+    let (twin, twin_choice) = draw::twin(random, &book, &choice);
+    let sheets = [(&book, choice), (&twin, twin_choice)]
+        .map(|(book, choice)| (case(book), sheet::write(book, &choice, random.word() >> 32)));
+    let [(first, sheet), _] = &sheets;
+    let need = first.supply_view(sheet, usize::MAX).sheet.len();
+    let below = random.below(need);
+    for buffer in [need, need - 1, need + 1, below, 0] {
+        session.supply_views(&sheets, buffer);
     }
 }

@@ -7,6 +7,7 @@ pub mod order;
 pub mod plan;
 pub mod quick;
 pub mod sheet;
+pub mod views;
 
 use crate::call::{Function, Input};
 use crate::{Answer, Numbers};
@@ -105,6 +106,8 @@ impl Case {
             Function::ReadSheet => self.read_sheet(input.sheet),
             Function::Charge => self.charge(input.sheet, input.prices),
             Function::Order => self.order(input.running, input.planned, input.names, input.sheet.len()),
+            Function::MillView => self.mill_view(input.planned, input.sheet.len()),
+            Function::SupplyView => self.supply_view(input.planned, input.sheet.len()),
         }
     }
 
@@ -177,17 +180,20 @@ impl Case {
         let (_, new, _) = self.read_with(planned)?;
         refuse_if(!order::names_are_right(names, book.loads.len()), 15)?;
         refuse_if(order::some_named_load_stands(&old, &new, names), 16)?;
-        let order = order::of(&old, &new, names);
-        refuse_if(buffer < order.len(), 11)?;
-        let first = Answer {
-            bytes: order.len() as u64,
-            ..Answer::default()
-        };
         let counts = [(&old, &new), (&new, &old)].map(|(from, to)| order::starting(from, to).count() as u64);
-        Ok(Outcome {
-            sheet: order,
-            ..answered(first, counts.to_vec())
-        })
+        fitting(order::of(&old, &new, names), buffer, counts.to_vec())
+    }
+
+    pub fn mill_view(&self, sheet: &[u8], buffer: usize) -> Outcome {
+        self.read_with(sheet)
+            .and_then(|(book, choice, _)| fitting(views::mill(book, &choice), buffer, Vec::new()))
+            .unwrap_or_else(refused::<0>)
+    }
+
+    pub fn supply_view(&self, sheet: &[u8], buffer: usize) -> Outcome {
+        self.read_with(sheet)
+            .and_then(|_| fitting(views::supply(sheet), buffer, Vec::new()))
+            .unwrap_or_else(refused::<0>)
     }
 
     /// The book, after refusals 1 to 8.
@@ -238,6 +244,19 @@ fn written(book: &Book, choice: &[usize], trials: u64) -> Outcome {
         sheet,
         ..answered(first, Vec::new())
     }
+}
+
+/// An order or a view, and the numbers after the first five; refusal 11 where it is longer than the buffer.
+fn fitting(bytes: Vec<u8>, buffer: usize, further: Vec<u64>) -> Result<Outcome, Refusal> {
+    refuse_if(buffer < bytes.len(), 11)?;
+    let first = Answer {
+        bytes: bytes.len() as u64,
+        ..Answer::default()
+    };
+    Ok(Outcome {
+        sheet: bytes,
+        ..answered(first, further)
+    })
 }
 
 /// The cases of "Trials at the bench"; those of steps and grid values stand in `grid`, those of document 02 with their part.

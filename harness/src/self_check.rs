@@ -1,6 +1,7 @@
 //! Shows that the comparison can fail: calls that went right are altered in one place each, which must be reported.
 
 use crate::call::{Call, Function, Input};
+use crate::draw;
 use crate::kinds;
 use crate::random::Random;
 use crate::reference::{sheet, Case, Outcome, EXAMPLE};
@@ -12,6 +13,13 @@ const NEED: usize = 4 * 11 * 24;
 /// The bytes of its sheet, and the bytes lent for it.
 const SHEET: usize = 48;
 const BUFFER: usize = SHEET + 5;
+
+/// A book with other loads and worths than the bench book, and a sheet of it with other trials; but limit and sums are those of
+/// the bench book's plan.
+const TWIN: (&[u8], &[u8]) = (
+    b"0101020100000000000A\n0201000300020000\n0201000700090001\n",
+    b"04000000070000000F0001\n050000000900000001000A\n",
+);
 
 /// A call that went right and what it has to leave.
 struct Base {
@@ -72,6 +80,29 @@ const ORDERED: &[Alteration] = &[
     ("last name", |call| call.names.flip_from_end(-1)),
 ];
 
+/// For both views.
+const SHOWN: &[Alteration] = &[("last byte of the shown sheet", |call| call.planned.flip_from_end(-1))];
+
+/// For the mill's view alone: 090000000A01010201 for the bench book's plan.
+const MILL: &[Alteration] = &[
+    ("last byte of the mill's view", |call| call.sheet.flip(18)),
+    ("byte past the mill's view", |call| call.sheet.flip(19)),
+    ("standing load listed", |call| {
+        call.sheet.put(b"090000000A010102010300\n")
+    }),
+    ("levels without numbers", |call| call.sheet.put(b"090000000A0101\n")),
+    ("highest load first", |call| call.sheet.put(b"090000000A02010101\n")),
+];
+
+/// For the supply company's view alone: 050000000900000001000A for the bench book's plan.
+const SUPPLY: &[Alteration] = &[
+    ("last byte of the supply company's view", |call| call.sheet.flip(22)),
+    ("byte past the supply company's view", |call| call.sheet.flip(23)),
+    ("first line of the sheet shown", |call| {
+        call.sheet.put(b"040000000A0000000E010100\n050000000900000001000A\n")
+    }),
+];
+
 /// For the planner alone: words of the work area that no call may change.
 const KEPT_WORDS: &[Alteration] = &[
     ("word past the needed ones", |call| call.work.flip(NEED as isize)),
@@ -113,7 +144,7 @@ impl Checks {
 /// Makes every check.
 pub fn run() -> Checks {
     let mut checks = Checks::default();
-    for base in bases() {
+    for base in bases().into_iter().chain(view_bases()) {
         check_base(&mut checks, &base);
     }
     for (name, alter) in FIELDS {
@@ -130,6 +161,8 @@ fn check_base(checks: &mut Checks, base: &Base) {
         Function::ReadSheet => &[FURTHER],
         Function::Charge => &[FURTHER, PRICES],
         Function::Order => &[FURTHER, ORDERED],
+        Function::MillView => &[SHOWN, MILL],
+        Function::SupplyView => &[SHOWN, SUPPLY],
     };
     for alteration in FIELDS.iter().chain(MEMORY).chain(more.iter().copied().flatten()) {
         checks.reported(base, alteration, true);
@@ -150,7 +183,7 @@ fn check_session(checks: &mut Checks, name: &str, alter: fn(&mut Call)) {
     checks.check(noticed, &format!("a run with every {name} altered is not noticed"));
 }
 
-/// Each call with and without a refusal, on memory with guards.
+/// Each call but the views with and without a refusal, on memory with guards.
 fn bases() -> Vec<Base> {
     let good = Case::new(EXAMPLE.to_vec());
     let unterminated = Case::new(EXAMPLE[..EXAMPLE.len() - 1].to_vec());
@@ -180,6 +213,34 @@ fn bases() -> Vec<Base> {
         order("order, refusal 13", &foreign_sheet, &[2, 0, 0]),
         order("order, refusal 15", &sheet, &[2, 2, 0]),
         order("order, refusal 16", &sheet, &[2, 3, 0]),
+    ]
+}
+
+/// Each view with and without a refusal, and the supply company's of the twin's sheet, which has to leave the same. The longest
+/// views do not fit the buffer.
+fn view_bases() -> Vec<Base> {
+    let good = Case::new(EXAMPLE.to_vec());
+    let unterminated = Case::new(EXAMPLE[..EXAMPLE.len() - 1].to_vec());
+    let twin = Case::new(TWIN.0.to_vec());
+    let long = Case::new(draw::text(&draw::longest()));
+    let sheet = good.plan(NEED, BUFFER).sheet;
+    let long_sheet = sheet::write(&draw::longest(), &[1; 24], 0);
+    let free = [0; BUFFER];
+    let mill = |name, case: &Case, sheet: &[u8]| base(name, case, Input::mill_view(&case.text, sheet, &free));
+    let supply = |name, case: &Case, sheet: &[u8]| base(name, case, Input::supply_view(&case.text, sheet, &free));
+    vec![
+        mill("mill_view, a view", &good, &sheet),
+        mill("mill_view, refusal 1 before 13", &unterminated, &sheet[1..]),
+        mill("mill_view, refusal 11", &long, &long_sheet),
+        mill("mill_view, refusal 13 before 11", &long, &long_sheet[1..]),
+        supply("supply_view, a view", &good, &sheet),
+        supply("supply_view, refusal 1 before 13", &unterminated, &sheet[1..]),
+        supply("supply_view, refusal 11", &long, &long_sheet),
+        supply("supply_view, refusal 13 before 11", &long, &long_sheet[1..]),
+        Base {
+            expected: good.supply_view(&sheet, BUFFER),
+            ..supply("supply_view, the twin's", &twin, TWIN.1)
+        },
     ]
 }
 

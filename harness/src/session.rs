@@ -2,19 +2,21 @@
 
 use crate::call::{Call, Function, Input};
 use crate::random::Random;
-use crate::reference::Case;
+use crate::reference::{Case, Outcome};
 use crate::NUMBERS;
 
 /// How many differences are kept for printing.
 const MOST_DIFFERENCES: usize = 20;
 
 /// The functions with their names, in the order of `enum Function`.
-const FUNCTIONS: [(Function, &str); 5] = [
+const FUNCTIONS: [(Function, &str); 7] = [
     (Function::Plan, "plan"),
     (Function::Quick, "quick"),
     (Function::ReadSheet, "read_sheet"),
     (Function::Charge, "charge"),
     (Function::Order, "order"),
+    (Function::MillView, "mill_view"),
+    (Function::SupplyView, "supply_view"),
 ];
 
 pub struct Session {
@@ -76,12 +78,38 @@ impl Session {
         self.call(case, Input::order(&case.text, running, planned, names, &buffer));
     }
 
+    /// The mill's view of a sheet, with so many bytes lent for it.
+    pub fn mill_view(&mut self, case: &Case, sheet: &[u8], buffer: usize) {
+        let buffer = self.bytes(buffer);
+        self.call(case, Input::mill_view(&case.text, sheet, &buffer));
+    }
+
+    /// The supply company's view of a sheet, with so many bytes lent for it.
+    pub fn supply_view(&mut self, case: &Case, sheet: &[u8], buffer: usize) {
+        let buffer = self.bytes(buffer);
+        self.call(case, Input::supply_view(&case.text, sheet, &buffer));
+    }
+
+    /// The supply company's views of two sheets that it must not tell apart: both have to leave what the first has to.
+    pub fn supply_views(&mut self, sheets: &[(Case, Vec<u8>); 2], buffer: usize) {
+        let [(first, sheet), _] = sheets;
+        let expected = first.supply_view(sheet, buffer);
+        for (case, sheet) in sheets {
+            let buffer = self.bytes(buffer);
+            self.call_leaving(&expected, case, Input::supply_view(&case.text, sheet, &buffer));
+        }
+    }
+
     /// A call on the case's book.
     fn call(&mut self, case: &Case, input: Input) -> Call {
-        let expected = case.outcome(input);
+        self.call_leaving(&case.outcome(input), case, input)
+    }
+
+    /// A call on the case's book that has to leave this.
+    fn call_leaving(&mut self, expected: &Outcome, case: &Case, input: Input) -> Call {
         let mut call = Call::new(&mut self.random, input);
         (self.alter)(&mut call);
-        let mut complaints = call.complaints(&expected);
+        let mut complaints = call.complaints(expected);
         complaints.extend(case.doubt().map(str::to_string));
         self.refusals[input.function as usize][expected.answer.first.number as usize] += 1;
         self.count(&call, &complaints);
