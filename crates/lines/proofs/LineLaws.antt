@@ -21,7 +21,7 @@ use Rattle.model.proofs.FrameLaws.{length-digits}
 use Rattle.model.proofs.IntegerLaws.{split, sub-pos, sub-neg}
 use Rattle.hex.specs.Written.{written}
 use Rattle.hex.proofs.WrittenLaws.{length-written, written-part, write-byte, write-on}
-use Rattle.lines.specs.Lines.{numbersIn, firstBytes, slotBytes, slotsBytes}
+use Rattle.lines.specs.Lines.{numbersIn, firstBytes, slotBytes, wordIn, slotsBytes}
 
 -- ---- pieces over the numbers below a bound
 
@@ -77,21 +77,20 @@ pub length-slot-bytes : (active word limit : ℕ) → length (slotBytes active w
 unfolding slotBytes
 length-slot-bytes active word limit = simp (length-append, length-digits) (omega arith)
 
-module _ (actives words limits : List ℕ) where
+module _ (count : ℕ) (actives reactives limits : List ℕ) where
   -- the line of slot s
   abbrev slotAt : ℕ → List ℕ
-  slotAt s = slotBytes (getD actives s 0) (getD words s 0) (getD limits s 0)
+  slotAt s = slotBytes (getD actives s 0) (wordIn count reactives s) (getD limits s 0)
 
-  pub length-slots-bytes : (n : ℕ) → length (slotsBytes actives words limits n) ≡ 23 * n
+  length-slots-bytes : (n : ℕ) → length (slotsBytes count actives reactives limits n) ≡ 23 * n
   unfolding slotsBytes
-  length-slots-bytes n = length-pieces slotAt 23 n (λ s. length-slot-bytes (getD actives s 0) (getD words s 0) (getD limits s 0))
+  length-slots-bytes n = length-pieces slotAt 23 n (λ s. length-slot-bytes (getD actives s 0) (wordIn count reactives s) (getD limits s 0))
 
-  pub slots-none : slotsBytes actives words limits 0 ≡ []
+  pub slots-none : slotsBytes count actives reactives limits 0 ≡ []
   unfolding slotsBytes
   slots-none = refl
 
-  pub slots-more : (n : ℕ) → slotsBytes actives words limits (n + 1)
-      ≡ slotsBytes actives words limits n ++ slotBytes (getD actives n 0) (getD words n 0) (getD limits n 0)
+  slots-more : (n : ℕ) → slotsBytes count actives reactives limits (n + 1) ≡ slotsBytes count actives reactives limits n ++ slotAt n
   unfolding slotsBytes
   slots-more n = pieces-last slotAt n
 
@@ -138,14 +137,16 @@ numbers-go l l′ l″ picks at p k n e f q few h =
     ∙ write-on l l′ at p (numbersIn picks k) (digits 2 (getD picks k 0)) e (rw length-numbers q) (rw length-digits (omega arith))
     ∙ ap (written l at) (sym (numbers-more picks k))
 
-pub slots-go : (l l′ l″ actives words limits : List ℕ) (p s n : ℕ) → l′ ≡ written l 0 (slotsBytes actives words limits s)
-    → l″ ≡ written l′ p (slotBytes (getD actives s 0) (getD words s 0) (getD limits s 0)) → p ≡ 23 * s → s < n → 23 * n ≤ length l
-    → l″ ≡ written l 0 (slotsBytes actives words limits (s + 1))
-slots-go l l′ l″ actives words limits p s n e f q few h =
+pub slots-go : (count : ℕ) (l l′ l″ actives reactives limits : List ℕ) (p s n word : ℕ) → l′ ≡ written l 0 (slotsBytes count actives reactives limits s)
+    → word ≡ wordIn count reactives s → l″ ≡ written l′ p (slotBytes (getD actives s 0) word (getD limits s 0)) → p ≡ 23 * s → s < n → 23 * n ≤ length l
+    → l″ ≡ written l 0 (slotsBytes count actives reactives limits (s + 1))
+slots-go count l l′ l″ actives reactives limits p s n word e w f q few h =
+    let line = slotAt count actives reactives limits s in
     f
-    ∙ write-on l l′ 0 p (slotsBytes actives words limits s) (slotBytes (getD actives s 0) (getD words s 0) (getD limits s 0)) e
+    ∙ ap (λ x. written l′ p (slotBytes (getD actives s 0) x (getD limits s 0))) w
+    ∙ write-on l l′ 0 p (slotsBytes count actives reactives limits s) line e
     (rw length-slots-bytes (omega arith)) (rw length-slot-bytes (omega arith))
-    ∙ ap (written l 0) (sym (slots-more actives words limits s))
+    ∙ ap (written l 0) (sym (slots-more count actives reactives limits s))
 
 -- ---- lines after the first line
 
@@ -195,24 +196,28 @@ slot-is : (x : SlotSum) (active word limit : ℕ) → active ≡ x .sum .p → w
 unfolding slotLine slotBytes
 slot-is x active word limit p q l = rw (p, q, l)
 
-module _ (b : Problem) (c : Choice) (actives words limits : List ℕ) where
+module _ (b : Problem) (c : Choice) (count : ℕ) (actives reactives limits : List ℕ) where
   abbrev slots : ℕ
   slots = length (b .limits)
 
   abbrev sumAt : ℕ → SlotSum
   sumAt s = record { sum = sumIn s c; limit = getD (b .limits) s 0 }
 
-  pub slots-are : ((s : ℕ) → s < slots → getD actives s 0 ≡ sumIn s c .p) → ((s : ℕ) → s < slots → getD words s 0 ≡ unsigned 32 (sumIn s c .q))
-      → ((s : ℕ) → s < slots → getD limits s 0 ≡ getD (b .limits) s 0) → slotsBytes actives words limits slots ≡ slotLines (slotSums b c)
+  abbrev lineAt : ℕ → List ℕ
+  lineAt = slotAt count actives reactives limits
+
+  pub slots-are : ((s : ℕ) → s < slots → getD actives s 0 ≡ sumIn s c .p)
+      → ((s : ℕ) → s < slots → subℕ (getD reactives s 0) (32768 * count) ≡ sumIn s c .q)
+      → ((s : ℕ) → s < slots → getD limits s 0 ≡ getD (b .limits) s 0) → slotsBytes count actives reactives limits slots ≡ slotLines (slotSums b c)
   unfolding slotsBytes slotLines slotSums
   slots-are ps qs ls =
       sym
-      (pieces-are (slotAt actives words limits) slotLine (sumAt 0) (map sumAt (upto slots)) 0 at
-      ∙ ap (λ n. concat (map (slotAt actives words limits) (upto n))) (length-upto sumAt slots))
+      (pieces-are lineAt slotLine (sumAt 0) (map sumAt (upto slots)) 0 at
+      ∙ ap (λ n. concat (map lineAt (upto n))) (length-upto sumAt slots))
     where
-      at : (s : ℕ) → s < length (map sumAt (upto slots)) → slotLine (getD (map sumAt (upto slots)) s (sumAt 0)) ≡ slotAt actives words limits (0 + s)
+      at : (s : ℕ) → s < length (map sumAt (upto slots)) → slotLine (getD (map sumAt (upto slots)) s (sumAt 0)) ≡ lineAt (0 + s)
       at s h =
           let l : s < slots = omega (arith, length-upto sumAt slots) in
           ap slotLine (getD-upto sumAt slots s (sumAt 0) l)
-          ∙ slot-is (sumAt s) (getD actives s 0) (getD words s 0) (getD limits s 0) (ps s l) (qs s l) (ls s l)
-          ∙ ap (slotAt actives words limits) (sym (zero-add s))
+          ∙ slot-is (sumAt s) (getD actives s 0) (wordIn count reactives s) (getD limits s 0) (ps s l) (ap (unsigned 32) (qs s l)) (ls s l)
+          ∙ ap lineAt (sym (zero-add s))

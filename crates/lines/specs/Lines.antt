@@ -1,9 +1,10 @@
 -- The lines of a sheet (document 01, "The sheet") over the numbers that the code holds.
-use Prim.Native.Nat.{ℕ}
+use Prim.Native.Nat.{ℕ, _*_}
 use mathlib.Core.List.{List, _++_, map}
+use lib.IntN.{subℕ}
 use lib.ListN.{getD}
 use Rattle.model.specs.Lists.{upto, concat}
-use Rattle.model.specs.Frames.{digits}
+use Rattle.model.specs.Frames.{digits, unsigned}
 use Rattle.model.specs.Sheet.{lf}
 
 -- "c of each load (2 each)": the first n of an array
@@ -18,6 +19,11 @@ firstBytes picks n worth trials = digits 2 4 ++ digits 8 worth ++ digits 8 trial
 unfoldable pub slotBytes : ℕ → ℕ → ℕ → List ℕ
 slotBytes active word limit = digits 2 5 ++ digits 8 active ++ digits 8 word ++ digits 4 limit ++ lf
 
+-- the word of the sum of Q in slot s, where each Q of `count` loads is raised by 32,768
+abbrev pub wordIn : ℕ → List ℕ → ℕ → ℕ
+wordIn count reactives s = unsigned 32 (subℕ (getD reactives s 0) (32768 * count))
+
 -- "Then for each slot": the first n of three arrays
-unfoldable pub slotsBytes : List ℕ → List ℕ → List ℕ → ℕ → List ℕ
-slotsBytes actives words limits n = concat (map (λ s. slotBytes (getD actives s 0) (getD words s 0) (getD limits s 0)) (upto n))
+unfoldable pub slotsBytes : ℕ → List ℕ → List ℕ → List ℕ → ℕ → List ℕ
+slotsBytes count actives reactives limits n =
+    concat (map (λ s. slotBytes (getD actives s 0) (wordIn count reactives s) (getD limits s 0)) (upto n))

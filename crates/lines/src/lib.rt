@@ -1,11 +1,9 @@
 // The writers of a sheet's lines: digits and an LF, put into a lent buffer.
 use model::Book;
 ghost use mathlib.Core.Path.{_≡_};
-ghost use mathlib.Core.List.{map};
 ghost use Prim.Native.Nat.{ℕ, _+_, _*_, _^_, _≤_, _<_};
 ghost use lib.IntN.{subℕ};
 ghost use lib.ListN.{length, getD};
-ghost use Rattle.model.specs.Lists.{upto};
 ghost use Rattle.model.specs.Bounds.{mostSlots, mostLoads};
 ghost use Rattle.model.specs.Frames.{unsigned};
 ghost use Rattle.hex.specs.Written.{written};
@@ -53,24 +51,6 @@ fn write_slot(part: &mut [u8], at: usize, active: u64, word: u64, limit: u64)
     part[at + 22] = 10;
 }
 
-// Writes the slot lines from the start on.
-pub fn write_slots(
-    part: &mut [u8],
-    slots: usize,
-    actives: [u64; Book::SLOTS],
-    words: [u64; Book::SLOTS],
-    limits: [u64; Book::SLOTS],
-)
-    requires { ⌜ (slots ≤ mostSlots) × (23 * slots ≤ length (now part)) ⌝ }
-    ensures { λ _. ⌜ now (part .exit) ≡ written (now (part .entry)) 0 (slotsBytes actives words limits slots) ⌝ }
-{
-    let mut s = 0;
-    while s < slots {
-        write_slot(part, 23 * s, actives[s], words[s], limits[s]);
-        s += 1;
-    }
-}
-
 // The two's complement word, of 32 bits, of `reactive` - `base`.
 fn word_of(reactive: u64, base: u64) -> u64
     requires { ⌜ (reactive ≤ 2 ^ 31) × (base ≤ 2 ^ 31) ⌝ }
@@ -79,16 +59,24 @@ fn word_of(reactive: u64, base: u64) -> u64
     (reactive + 4294967296 - base) % 4294967296
 }
 
-// The words of the slots' sums of Q, each raised by `base`.
-pub fn words_of(reactives: [u64; Book::SLOTS], base: u64) -> [u64; Book::SLOTS]
-    requires { ⌜ (base ≤ 2 ^ 31) × ((s : ℕ) → s < mostSlots → getD reactives s 0 ≤ 2 ^ 31) ⌝ }
-    ensures { λ r. ⌜ r ≡ map (λ s. unsigned 32 (subℕ (getD reactives s 0) base)) (upto mostSlots) ⌝ }
+// Writes the slot lines from the start on, where `reactives` are sums of Q over `count` loads, each Q raised by 32,768.
+pub fn write_slots(
+    part: &mut [u8],
+    slots: usize,
+    count: usize,
+    actives: [u64; Book::SLOTS],
+    reactives: [u64; Book::SLOTS],
+    limits: [u64; Book::SLOTS],
+)
+    requires { ⌜ (slots ≤ mostSlots) × (count ≤ mostLoads) × (23 * slots ≤ length (now part)) ⌝ }
+    requires { ⌜ ((s : ℕ) → s < mostSlots → getD reactives s 0 ≤ 2 ^ 31) ⌝ }
+    ensures { λ _. ⌜ now (part .exit) ≡ written (now (part .entry)) 0 (slotsBytes count actives reactives limits slots) ⌝ }
 {
-    let mut words = [0; Book::SLOTS];
+    let base = 32768 * count as u64;
     let mut s = 0;
-    while s < Book::SLOTS {
-        words[s] = word_of(reactives[s], base);
+    while s < slots {
+        let word = word_of(reactives[s], base);
+        write_slot(part, 23 * s, actives[s], word, limits[s]);
         s += 1;
     }
-    words
 }

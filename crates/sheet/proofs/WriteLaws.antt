@@ -66,44 +66,40 @@ module _ (book : Book) (h : Held book) (picks : List ℕ) (picked : Picked (prob
   reactive-room sums e s l =
       omega (arith, ap (λ (x : Sums). getD (x .reactives) s 0) e, choice-sums b (held-valid book h) c chosen .reactive s l)
 
-  module _ (sums : Sums) (words : List ℕ) (e : sums ≡ sumsValue c)
-      (w : words ≡ map (λ s. unsigned 32 (subℕ (getD (sums .reactives) s 0) (32768 * book .count))) (upto 4)) where
-    active-is : (s : ℕ) → s < 4 → getD (sums .actives) s 0 ≡ sumIn s c .p
-    active-is s l = ap (λ (x : Sums). getD (x .actives) s 0) e ∙ sums-active c s l
+  -- the code's numbers give the slot lines of the definitions
+  pub slots-lines : (sums : Sums) → sums ≡ sumsValue c
+      → slotsBytes (book .count) (sums .actives) (sums .reactives) (book .limits) (book .slots) ≡ slotLines (slotSums b c)
+  slots-lines sums e =
+      ap (slotsBytes (book .count) (sums .actives) (sums .reactives) (book .limits)) (held-slots book h)
+      ∙ slots-are b c (book .count) (sums .actives) (sums .reactives) (book .limits)
+      (λ s l. active-is s (four s l)) (λ s l. reactive-is s (four s l)) (λ s l. held-limit book h s (four s l))
+    where
+      four : (s : ℕ) → s < length (b .limits) → s < 4
+      four s l = omega (arith, held-slots book h, held-four book h)
 
-    reactive-is : (s : ℕ) → s < 4 → subℕ (getD (sums .reactives) s 0) (32768 * book .count) ≡ sumIn s c .q
-    reactive-is s l =
-        ap₂ (λ x n. subℕ x (32768 * n)) (ap (λ (x : Sums). getD (x .reactives) s 0) e ∙ sums-reactive c s l) (sym count-is)
-        ∙ raised-less (length c) (sumIn s c .q) (sum-small c (choice-small b (held-valid book h) c chosen) s .reactive)
+      active-is : (s : ℕ) → s < 4 → getD (sums .actives) s 0 ≡ sumIn s c .p
+      active-is s l = ap (λ (x : Sums). getD (x .actives) s 0) e ∙ sums-active c s l
 
-    word-at : (s : ℕ) → s < 4 → getD words s 0 ≡ unsigned 32 (sumIn s c .q)
-    word-at s l =
-        ap (λ x. getD x s 0) w
-        ∙ getD-upto (λ i. unsigned 32 (subℕ (getD (sums .reactives) i 0) (32768 * book .count))) 4 s 0 l
-        ∙ ap (unsigned 32) (reactive-is s l)
-
-    -- the code's numbers give the slot lines of the definitions
-    pub slots-lines : slotsBytes (sums .actives) words (book .limits) (book .slots) ≡ slotLines (slotSums b c)
-    slots-lines =
-        ap (slotsBytes (sums .actives) words (book .limits)) (held-slots book h)
-        ∙ slots-are b c (sums .actives) words (book .limits)
-        (λ s l. active-is s (four s l)) (λ s l. word-at s (four s l)) (λ s l. held-limit book h s (four s l))
-      where
-        four : (s : ℕ) → s < length (b .limits) → s < 4
-        four s l = omega (arith, held-slots book h, held-four book h)
+      reactive-is : (s : ℕ) → s < 4 → subℕ (getD (sums .reactives) s 0) (32768 * book .count) ≡ sumIn s c .q
+      reactive-is s l =
+          ap₂ (λ x n. subℕ x (32768 * n)) (ap (λ (x : Sums). getD (x .reactives) s 0) e ∙ sums-reactive c s l) (sym count-is)
+          ∙ raised-less (length c) (sumIn s c .q) (sum-small c (choice-small b (held-valid book h) c chosen) s .reactive)
 
   pub bytes-length : (trials : ℕ) → length (sheetBytes b c trials) ≡ sheetLength b
   bytes-length trials = sheet-length b c trials (choice-length b picks (held-valid book h) picked)
 
   -- the first line and then the slot lines leave the sheet in the buffer
-  pub sheet-left : (worth trials p : ℕ) (l l₁ l₂ : List ℕ) → worth ≡ worthOf c → l₁ ≡ written l 0 (firstBytes picks (book .count) worth trials)
-      → l₂ ≡ written (take (length l₁ - p) (drop p l₁)) 0 (slotLines (slotSums b c)) → p ≡ 19 + 2 * book .count → sheetLength b ≤ length l
+  pub sheet-left : (sums : Sums) (worth trials p : ℕ) (l l₁ l₂ : List ℕ) → sums ≡ sumsValue c → worth ≡ worthOf c
+      → l₁ ≡ written l 0 (firstBytes picks (book .count) worth trials)
+      → l₂ ≡ written (take (length l₁ - p) (drop p l₁)) 0 (slotsBytes (book .count) (sums .actives) (sums .reactives) (book .limits) (book .slots))
+      → p ≡ 19 + 2 * book .count → sheetLength b ≤ length l
       → take p l₁ ++ (l₂ ++ drop (length l₁ - p) (drop p l₁)) ≡ bufferAfter (done (sheetOf b c trials)) l
   unfolding sheetBytes
-  sheet-left worth trials p l l₁ l₂ f first rest q room =
+  sheet-left sums worth trials p l l₁ l₂ e f first rest q room =
       let first-line : firstBytes picks (book .count) worth trials ≡ firstLine c trials
       = ap (λ v. firstBytes picks (book .count) v trials) f
       ∙ first-is c picks (book .count) count-is (λ k i. number-at b picks (held-valid book h) picked k (omega (arith, held-count book h))) trials in
-      then-written l l₁ l₂ (firstLine c trials) (slotLines (slotSums b c)) p (first ∙ ap (written l 0) first-line) rest
+      then-written l l₁ l₂ (firstLine c trials) (slotLines (slotSums b c)) p (first ∙ ap (written l 0) first-line)
+      (rest ∙ ap (written (take (length l₁ - p) (drop p l₁)) 0) (slots-lines sums e))
       (omega (arith, length-first c trials, count-is)) (omega (arith, length-slot-lines b c, held-count book h))
       ∙ written-start l (sheetBytes b c trials)

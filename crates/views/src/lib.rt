@@ -139,7 +139,11 @@ fn supply_of(book: Book, picks: [usize; Book::LOADS], view: &mut [u8]) -> Answer
     if view.len() < bytes {
         return Answer::refusal(Refusal::BufferTooSmall, 0);
     }
-    sheet::write_slot_lines(book, picks, view);
+    let sums = sums::sums_of(book, picks);
+    let actives = sums.actives;
+    let reactives = sums.reactives;
+    let limits = book.limits;
+    lines::write_slots(view, book.slots, book.count, actives, reactives, limits);
     Answer::success(bytes as u64, 0, 0)
 }
 

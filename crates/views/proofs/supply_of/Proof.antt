@@ -1,11 +1,14 @@
 -- `views::supply_of` meets its contract: refusal 11, or the slot lines. Assumes nothing.
+use mathlib.Core.Path.{ap, _∙_}
 use native.Mathlib.Omega.{arith}
 use borrow.Author.Needs.{needs}
 use Rattle.model.specs.Sheet.{slotSums, slotLines}
 use Rattle.model.specs.Values.{choiceOf, problemOf}
 use Rattle.model.specs.Views.{supplyView}
-use Rattle.model.proofs.HeldLaws.{held-slots, held-four}
+use Rattle.model.proofs.HeldLaws.{held-few, held-slots, held-four}
 use Rattle.model.proofs.SheetLaws.{length-slot-lines}
+use Rattle.hex.specs.Written.{written}
+use Rattle.sheet.proofs.WriteLaws.{reactive-room, slots-lines}
 use Rattle.views.proofs.ReadLaws.{shown-refused, shown-writes}
 use Rattle.views.proofs.supply_of.Statement.{statement}
 use Rattle.views.proofs.supply_of.Tie as tie
@@ -27,10 +30,16 @@ returns c =
     shown-refused (slotLines (slotSums b (choiceOf b (a .picks)))) (a .view .now) _ (c .refusal .ensures)
     (omega (arith, c .before .if1 .taken, length-slot-lines b (choiceOf b (a .picks)), held-slots (a .book) (s .pre .0)))
 
-write-slot-lines-requires : tie.Need-write-slot-lines-requires
-write-slot-lines-requires c κs =
-    let s = c .before .before .before .before in
-    (s .pre .0, (s .pre .1, omega (arith, c .before .if1 .left, held-slots (s .args .book) (s .pre .0))))
+sums-of-requires : tie.Need-sums-of-requires
+sums-of-requires c κs = search needs
+
+write-slots-requires : tie.Need-write-slots-requires
+write-slots-requires c κs =
+    let s = c .before .before .before .before .before .before .before .before in
+    let a = s .args in (
+      (held-four (a .book) (s .pre .0), held-few (a .book) (s .pre .0), omega (arith, c .before .before .before .before .before .if1 .left)),
+      reactive-room (a .book) (s .pre .0) (a .picks) (s .pre .1) _ (c .before .before .before .before .sums-of .ensures),
+    )
 
 success-requires : tie.Need-success-requires
 success-requires c κs = search needs
@@ -41,13 +50,15 @@ same-length c = search needs
 returns-2 : tie.Need-returns-2
 unfolding supplyView
 returns-2 c =
-    let s = c .before .before .before .before .before .before .before .before in
+    let s = c .before .before .before .before .before .before .before .before .before .before .before .before in
     let a = s .args in
     let b = problemOf (a .book) in
+    let sums = c .before .before .before .before .before .before .before .before .sums-of in
     let long = length-slot-lines b (choiceOf b (a .picks)) in
     let slots = held-slots (a .book) (s .pre .0) in
-    shown-writes (slotLines (slotSums b (choiceOf b (a .picks)))) (a .view .now) _ _ _ (c .before .before .before .write-slot-lines .ensures)
-    (omega (arith, long, slots)) (c .success .ensures) (omega (arith, long, slots, c .before .before .before .before .before .if1 .left))
+    shown-writes (slotLines (slotSums b (choiceOf b (a .picks)))) (a .view .now) _ _ _
+    (c .before .before .before .write-slots .ensures ∙ ap (written (a .view .now) 0) (slots-lines (a .book) (s .pre .0) (a .picks) (s .pre .1) (sums .result) (sums .ensures)))
+    (omega (arith, long, slots)) (c .success .ensures) (omega (arith, long, slots, c .before .before .before .before .before .before .before .before .before .if1 .left))
 
 pub supply-of-spec : {M : Type 1} → statement M
 supply-of-spec =
@@ -56,7 +67,8 @@ supply-of-spec =
     mul-bytes
     refusal-requires
     returns
-    write-slot-lines-requires
+    sums-of-requires
+    write-slots-requires
     success-requires
     same-length
     returns-2)
