@@ -113,7 +113,7 @@ int with_files(const char *program, const std::vector<const char *> &names, Use 
         texts.push_back(*text);
     }
     const int status = use(texts);
-    if (std::fflush(stdout) != 0)
+    if (std::ferror(stdout) != 0 || std::fflush(stdout) != 0)
         return own_error(program, "standard output", "cannot be written");
     return status;
 }

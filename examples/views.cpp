@@ -36,9 +36,7 @@ int print_view(Call call, const std::string &book, const std::string &sheet)
         return 1;
     }
     // What stands past the view is no part of it.
-    const auto length = static_cast<std::size_t>(answer.bytes);
-    if (std::fwrite(view, 1, length, stdout) != length)
-        return own_error("views", "standard output", "cannot be written");
+    std::fwrite(view, 1, static_cast<std::size_t>(answer.bytes), stdout);
     return 0;
 }
 

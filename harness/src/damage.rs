@@ -66,10 +66,11 @@ fn not_hex(random: &mut Random, line: &mut [u8]) {
     line[at] = random.pick(b"abcdefgGx/:@` \t\r\0\x7F\x80\xB0\xFF");
 }
 
-/// A kind that is not due, or fewer than 4 digits (stray).
+/// A kind that is not due, also one of a sheet or a view, or fewer than 4 digits (stray).
 fn wrong_kind(random: &mut Random, line: &mut Vec<u8>) {
     if random.one_in(2) {
-        put(line, 0, random.pick(&[b"00", b"01", b"02", b"03", b"10", b"12", b"FF"]));
+        let kind = random.pick(&[b"00", b"01", b"02", b"03", b"04", b"05", b"09", b"10", b"12", b"FF"]);
+        put(line, 0, kind);
     } else {
         let kept = random.below(4);
         if line.len() > kept {

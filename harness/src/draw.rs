@@ -1,4 +1,4 @@
-//! Random valid books, the twin of a book, the longest book, and the bytes of a book.
+//! Random valid books, the twin of a book, a book with the longest sheet and views, and the bytes of a book.
 
 use crate::random::Random;
 use crate::reference::book::{Book, Level, Load};
@@ -251,8 +251,8 @@ fn halves(powers: &[(i64, i64)]) -> [Vec<(i64, i64)>; 2] {
     [half.collect(), rest.collect()]
 }
 
-/// A book of four slots and 24 loads of two levels: none has longer sheets and views.
-pub fn longest() -> Book {
+/// A book of four slots and 24 loads, of two levels each: none has a longer sheet, or longer views where all loads run.
+pub fn longest_views() -> Book {
     let level = |worth| Level {
         worth,
         powers: vec![(1, 0); 4],

@@ -6,6 +6,7 @@ use crate::random::Random;
 use crate::reference::book::Book;
 use crate::reference::{sheet, Case, MOST_CELLS};
 use crate::session::Session;
+use crate::VIEW_MAX;
 
 pub struct Kind {
     pub name: &'static str,
@@ -29,7 +30,7 @@ pub const KINDS: &[Kind] = &[
     kind("one fault", 750, one_fault),
     kind("two faults", 500, two_faults),
     kind("truncated books", 900, truncated_books),
-    kind("a byte changed", 1_500, changed_books),
+    kind("a byte changed", 1_450, changed_books),
     kind("bytes inserted, deleted", 300, shifted_books),
     kind("lines exchanged", 200, reordered_books),
     kind("random bytes", 100, random_bytes),
@@ -47,6 +48,7 @@ pub const KINDS: &[Kind] = &[
     kind("views", 150, views),
     kind("views, buffers", 150, view_buffers),
     kind("views of twins", 100, views_of_twins),
+    kind("views as sheets", 50, views_as_sheets),
 ];
 
 const fn kind(name: &'static str, share: u64, run: fn(&mut Session)) -> Kind {
@@ -153,7 +155,7 @@ fn all_calls(session: &mut Session, case: &Case) {
     let running = random_sheet(&mut session.random, book);
     let names = names(&mut session.random, &plan.choice, true);
     session.order(case, [&running, &planned], &names, book.loads.len());
-    for (view, need) in views_of(case, &planned) {
+    for (view, need) in view_calls(case, &planned) {
         view(session, case, &planned, need + 1);
     }
 }
@@ -553,12 +555,17 @@ fn order_names(session: &mut Session) {
     }
 }
 
-/// A call for a view, and the bytes that the view needs.
-type View = (fn(&mut Session, &Case, &[u8], usize), usize);
-
 /// The mill's view of a sheet, and the supply company's.
-fn views_of(case: &Case, sheet: &[u8]) -> [View; 2] {
-    let [mill, supply] = [Case::mill_view, Case::supply_view].map(|view| view(case, sheet, usize::MAX).sheet.len());
+fn views_of(case: &Case, sheet: &[u8]) -> [Vec<u8>; 2] {
+    [Case::mill_view, Case::supply_view].map(|view| view(case, sheet, usize::MAX).sheet)
+}
+
+/// A call for a view, and the bytes that the view needs.
+type ViewCall = (fn(&mut Session, &Case, &[u8], usize), usize);
+
+/// The calls for both views of a sheet.
+fn view_calls(case: &Case, sheet: &[u8]) -> [ViewCall; 2] {
+    let [mill, supply] = views_of(case, sheet).map(|view| view.len());
     [(Session::mill_view, mill), (Session::supply_view, supply)]
 }
 
@@ -572,7 +579,7 @@ fn views(session: &mut Session) {
     let any = [(); 3].map(|_| random_choice(&mut session.random, &book));
     for choice in [standing, highest].iter().chain(&any) {
         let sheet = sheet::write(&book, choice, session.random.word() >> 32);
-        for (view, need) in views_of(&case, &sheet) {
+        for (view, need) in view_calls(&case, &sheet) {
             view(session, &case, &sheet, need);
         }
     }
@@ -582,7 +589,7 @@ fn views(session: &mut Session) {
 /// comes before 11.
 fn view_buffers(session: &mut Session) {
     let (case, sheet) = case_and_sheet(session);
-    for (view, need) in views_of(&case, &sheet) {
+    for (view, need) in view_calls(&case, &sheet) {
         let (below, more) = (session.random.below(need), session.random.below(300));
         for buffer in [need, need - 1, need + 1, need + more, below, 0] {
             view(session, &case, &sheet, buffer);
@@ -607,5 +614,22 @@ fn views_of_twins(session: &mut Session) {
     let below = random.below(need);
     for buffer in [need, need - 1, need + 1, below, 0] {
         session.supply_views(&sheets, buffer);
+    }
+}
+
+/// Each view of a sheet in place of a sheet, in every call that takes one: 13.
+fn views_as_sheets(session: &mut Session) {
+    let (case, [running, planned], choice) = two_sheets(session);
+    let book = case.book.as_ref().expect("a valid book");
+    let prices = prices(&mut session.random, book.limits.len());
+    let names = names(&mut session.random, &choice, true);
+    for view in views_of(&case, &planned) {
+        session.read_sheet(&case, &view);
+        session.charge(&case, &view, &prices);
+        for sheets in [[&view, &planned], [&running, &view]] {
+            session.order(&case, sheets.map(Vec::as_slice), &names, choice.len());
+        }
+        session.mill_view(&case, &view, VIEW_MAX);
+        session.supply_view(&case, &view, VIEW_MAX);
     }
 }

@@ -222,9 +222,9 @@ fn view_bases() -> Vec<Base> {
     let good = Case::new(EXAMPLE.to_vec());
     let unterminated = Case::new(EXAMPLE[..EXAMPLE.len() - 1].to_vec());
     let twin = Case::new(TWIN.0.to_vec());
-    let long = Case::new(draw::text(&draw::longest()));
+    let long = Case::new(draw::text(&draw::longest_views()));
     let sheet = good.plan(NEED, BUFFER).sheet;
-    let long_sheet = sheet::write(&draw::longest(), &[1; 24], 0);
+    let long_sheet = sheet::write(&draw::longest_views(), &[1; 24], 0);
     let free = [0; BUFFER];
     let mill = |name, case: &Case, sheet: &[u8]| base(name, case, Input::mill_view(&case.text, sheet, &free));
     let supply = |name, case: &Case, sheet: &[u8]| base(name, case, Input::supply_view(&case.text, sheet, &free));

@@ -273,31 +273,23 @@ fn orders() {
     named_case(b"two to start", 2, 0, &mut two);
 }
 
-// The mill's view of a sheet of document 01's example.
-fn mill_case(name: &[u8], sheet: &[u8], view: &mut [u8]) {
+// What the mill sees of a sheet of document 01's example, and then what the supply company sees, in the same buffer.
+fn view_case(name: &[u8], sheet: &[u8], view: &mut [u8]) {
     let book = b"0101030400000064000A\n0201000500050005\n020100050004FFFC\n0201000400040000\n";
     let a = views::mill_view(book, sheet, view);
     print_answer(name, b": mill, number ", a, view);
-}
-
-// The supply company's.
-fn supply_case(name: &[u8], sheet: &[u8], view: &mut [u8]) {
-    let book = b"0101030400000064000A\n0201000500050005\n020100050004FFFC\n0201000400040000\n";
     let a = views::supply_view(book, sheet, view);
     print_answer(name, b": supply, number ", a, view);
 }
 
-// Both views of the plan, on which load 3 stands: with a byte too few, with room to spare, and of a foreign sheet with no room at all.
+// The plan, on which load 3 stands: with a byte too few for the mill, and with room to spare; and a foreign sheet with no room at all.
 fn views() {
     let sheet = b"040000000A0000000E010100\n050000000900000001000A\n";
     let mut short = [46u8; 18];
     let mut view = [46u8; 24];
-    mill_case(b"no sheet", sheet, &mut short);
-    supply_case(b"no sheet", sheet, &mut short);
-    mill_case(b"plan", sheet, &mut view);
-    supply_case(b"plan", sheet, &mut view);
-    mill_case(b"foreign, no sheet", b"", &mut short[..0]);
-    supply_case(b"foreign, no sheet", b"", &mut short[..0]);
+    view_case(b"no sheet", sheet, &mut short);
+    view_case(b"plan", sheet, &mut view);
+    view_case(b"foreign, no sheet", b"", &mut short[..0]);
 }
 
 fn main() {

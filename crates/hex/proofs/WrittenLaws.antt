@@ -7,7 +7,7 @@ use native.Mathlib.Nat.{add-zero, add-assoc, zero-add, sub-self, div-one, div-di
 use native.Mathlib.Numerals.{add-one}
 use native.Mathlib.Omega.{arith}
 use lib.ListN.{length, getD, take, drop, set, length-append, length-take, length-drop, take-append-drop}
-use lib.Seq.{take-at, drop-at, set-at, take-suc, drop-drop, length-take-le, take-add}
+use lib.Seq.{take-at, drop-at, set-at, take-suc, drop-drop, length-take-le, take-add, take-length, drop-length}
 use Rattle.model.specs.Frames.{digit, digits}
 use Rattle.hex.specs.Written.{written}
 
@@ -62,6 +62,15 @@ written-part l a at xs h =
 pub written-start : (l xs : List ℕ) → written l 0 xs ≡ xs ++ drop (length xs) l
 unfolding written
 written-start l xs = rw zero-add
+
+-- two writes in a row: `first` from the start, then `rest` into the part after it
+pub then-written : (l l₁ l₂ first rest : List ℕ) (p : ℕ) → l₁ ≡ written l 0 first → l₂ ≡ written (take (length l₁ - p) (drop p l₁)) 0 rest
+    → p ≡ length first → p + length rest ≤ length l → take p l₁ ++ (l₂ ++ drop (length l₁ - p) (drop p l₁)) ≡ written l 0 (first ++ rest)
+then-written l l₁ l₂ first rest p e f q h =
+    let k : length l₁ ≡ length l = ap length e ∙ length-written l 0 first (omega arith) in
+    let n : length l₁ - p ≡ length (drop p l₁) = sym (length-drop p l₁) in
+    rw (f, n, take-length, drop-length, append-nil) (written-part l₁ p 0 rest (omega arith) ∙ ap (λ i. written l₁ i rest) (add-zero p))
+    ∙ write-on l l₁ 0 p first rest e (omega arith) (omega arith)
 
 -- ---- the digits of x, written from the last on: with `left` of n digits still to write, `rest` is x without the others
 

@@ -15,7 +15,7 @@ ghost use Rattle.model.specs.SheetReader.{readerResult, sheetAnswerOf};
 ghost use Rattle.model.specs.Demand.{Demand3};
 ghost use Rattle.model.specs.Charge.{chargeResult, chargeAnswerOf};
 ghost use Rattle.model.specs.Order.{orderResult, WritesOrder, OrderKept};
-ghost use Rattle.model.specs.Views.{millResult, supplyResult, SumsAlone};
+ghost use Rattle.model.specs.Views.{millResult, supplyResult, NothingElse};
 ghost use Rattle.model.specs.Bounds.{mostCharge};
 
 // The planner: the sheet of the plan, or the first refusal of 1 to 12.
@@ -80,7 +80,7 @@ pub extern "C" fn jadeshuttle_mill_view(book: &[u8], sheet: &[u8], view: &mut [u
 #[no_mangle]
 pub extern "C" fn jadeshuttle_supply_view(book: &[u8], sheet: &[u8], view: &mut [u8]) -> Answer
     ensures result { λ r. ⌜ Writes (supplyResult (now (book .entry)) (now (sheet .entry)) (length (now (view .entry)))) (now (view .entry)) (now (view .exit)) r ⌝ }
-    ensures alone { λ r. ⌜ SumsAlone (now (book .entry)) (now (sheet .entry)) (now (view .entry)) (now (view .exit)) r ⌝ }
+    ensures alone { λ r. ⌜ NothingElse (now (book .entry)) (now (sheet .entry)) (now (view .entry)) (now (view .exit)) r ⌝ }
 {
     views::supply_view(book, sheet, view)
 }

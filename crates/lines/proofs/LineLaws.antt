@@ -3,24 +3,22 @@
 use Prim.Native.Nat.{ℕ, zero, suc, _+_, _*_, _-_, _^_, _≤_, _<_}
 use mathlib.Core.Path.{_≡_, refl, sym, ap, ap₂, _∙_}
 use mathlib.Core.Logic.{_⊎_, inl, inr}
-use mathlib.Core.List.{List, [], _∷_, _++_, map, map-append, append-assoc, append-nil}
+use mathlib.Core.List.{List, [], _∷_, _++_, map, append-assoc}
 use native.Mathlib.Nat.{zero-add, add-zero}
-use native.Mathlib.Numerals.{add-one}
 use native.Mathlib.Omega.{arith}
 use lib.IntN.{subℕ}
-use lib.ListN.{length, getD, take, drop, set, length-append, length-drop}
-use lib.Seq.{take-length, drop-length}
+use lib.ListN.{length, getD, set, length-append}
 use Rattle.model.specs.Lists.{upto, uptoFrom, concat}
 use Rattle.model.specs.Frames.{digits, unsigned}
 use Rattle.model.specs.Book.{Setting, Problem}
 use Rattle.model.specs.Choice.{Choice, worthOf, sumIn, noSetting}
-use Rattle.model.specs.Sheet.{lf, numbersOf, firstLine, SlotSum, slotSums, slotLine, slotLines}
+use Rattle.model.specs.Sheet.{lf, numbersOf, firstLine, SumsAndLimit, sumsAndLimit, sumsAndLimits, slotLine, slotLines}
 use Rattle.model.proofs.ListLaws.{length-concat}
-use Rattle.model.proofs.UptoLaws.{upto-last, suc-across, length-upto, getD-upto}
+use Rattle.model.proofs.UptoLaws.{suc-across, length-upto, getD-upto, pieces-last}
 use Rattle.model.proofs.FrameLaws.{length-digits}
 use Rattle.model.proofs.IntegerLaws.{split, sub-pos, sub-neg}
 use Rattle.hex.specs.Written.{written}
-use Rattle.hex.proofs.WrittenLaws.{length-written, written-part, write-byte, write-on}
+use Rattle.hex.proofs.WrittenLaws.{length-written, write-byte, write-on}
 use Rattle.lines.specs.Lines.{numbersIn, firstBytes, slotBytes, wordIn, slotsBytes}
 
 -- ---- pieces over the numbers below a bound
@@ -32,18 +30,7 @@ length-ups n = go 0 n
     go i zero = refl
     go i (suc n) = ap suc (go (suc i) n)
 
-concat-last : (xss : List (List ℕ)) (ys : List ℕ) → concat (xss ++ (ys ∷ [])) ≡ concat xss ++ ys
-concat-last [] ys = append-nil ys
-concat-last (xs ∷ xss) ys = ap (λ r. xs ++ r) (concat-last xss ys) ∙ sym (append-assoc xs (concat xss) ys)
-
 module _ (f : ℕ → List ℕ) where
-  pub pieces-last : (n : ℕ) → concat (map f (upto (n + 1))) ≡ concat (map f (upto n)) ++ f n
-  pieces-last n =
-      ap (λ m. concat (map f (upto m))) (add-one n)
-      ∙ ap (λ r. concat (map f r)) (upto-last n)
-      ∙ ap concat (map-append f (upto n) (n ∷ []))
-      ∙ concat-last (map f (upto n)) (f n)
-
   length-pieces : (w n : ℕ) → ((k : ℕ) → length (f k) ≡ w) → length (concat (map f (upto n))) ≡ w * n
   length-pieces w n h = length-concat f w h (upto n) ∙ ap (λ m. w * m) (length-ups n)
 
@@ -68,10 +55,6 @@ numbers-none picks = refl
 pub numbers-more : (picks : List ℕ) (n : ℕ) → numbersIn picks (n + 1) ≡ numbersIn picks n ++ digits 2 (getD picks n 0)
 unfolding numbersIn
 numbers-more picks n = pieces-last (λ k. digits 2 (getD picks k 0)) n
-
-pub length-first-bytes : (picks : List ℕ) (n worth trials : ℕ) → length (firstBytes picks n worth trials) ≡ 19 + 2 * n
-unfolding firstBytes
-length-first-bytes picks n worth trials = simp (length-append, length-digits, length-numbers) (omega arith)
 
 pub length-slot-bytes : (active word limit : ℕ) → length (slotBytes active word limit) ≡ 23
 unfolding slotBytes
@@ -148,22 +131,6 @@ slots-go count l l′ l″ actives reactives limits p s n word e w f q few h =
     (rw length-slots-bytes (omega arith)) (rw length-slot-bytes (omega arith))
     ∙ ap (written l 0) (sym (slots-more count actives reactives limits s))
 
--- ---- lines after the first line
-
--- a write from the start of the part after a place
-rest-written : (l l′ xs : List ℕ) (a : ℕ) → a ≤ length l → l′ ≡ written (take (length l - a) (drop a l)) 0 xs
-    → take a l ++ (l′ ++ drop (length l - a) (drop a l)) ≡ written l a xs
-rest-written l l′ xs a h e =
-    let n : length l - a ≡ length (drop a l) = sym (length-drop a l) in
-    rw (e, n, take-length, drop-length, append-nil) (written-part l a 0 xs h ∙ ap (λ k. written l k xs) (add-zero a))
-
--- after the first line, or any bytes from the start
-pub then-written : (l l₁ l₂ first rest : List ℕ) (p : ℕ) → l₁ ≡ written l 0 first → l₂ ≡ written (take (length l₁ - p) (drop p l₁)) 0 rest
-    → p ≡ length first → p + length rest ≤ length l → take p l₁ ++ (l₂ ++ drop (length l₁ - p) (drop p l₁)) ≡ written l 0 (first ++ rest)
-then-written l l₁ l₂ first rest p e f q h =
-    let k : length l₁ ≡ length l = ap length e ∙ length-written l 0 first (omega arith) in
-    rest-written l₁ l₂ rest p (omega arith) f ∙ write-on l l₁ 0 p first rest e (omega arith) (omega arith)
-
 -- ---- Q as a word
 
 pub word-is : (reactive base w : ℕ) → (base ≤ reactive → w ≡ reactive - base) → (reactive < base → w ≡ 2 ^ 32 - (base - reactive))
@@ -191,7 +158,7 @@ module _ (c : Choice) (picks : List ℕ) (n : ℕ) (count : length c ≡ n) (h :
   first-is t = rw numbers-are
 
 -- a slot line, and those of a book's slots
-slot-is : (x : SlotSum) (active word limit : ℕ) → active ≡ x .sum .p → word ≡ unsigned 32 (x .sum .q) → limit ≡ x .limit
+slot-is : (x : SumsAndLimit) (active word limit : ℕ) → active ≡ x .sum .p → word ≡ unsigned 32 (x .sum .q) → limit ≡ x .limit
     → slotLine x ≡ slotBytes active word limit
 unfolding slotLine slotBytes
 slot-is x active word limit p q l = rw (p, q, l)
@@ -200,24 +167,21 @@ module _ (b : Problem) (c : Choice) (count : ℕ) (actives reactives limits : Li
   abbrev slots : ℕ
   slots = length (b .limits)
 
-  abbrev sumAt : ℕ → SlotSum
-  sumAt s = record { sum = sumIn s c; limit = getD (b .limits) s 0 }
-
   abbrev lineAt : ℕ → List ℕ
   lineAt = slotAt count actives reactives limits
 
   pub slots-are : ((s : ℕ) → s < slots → getD actives s 0 ≡ sumIn s c .p)
       → ((s : ℕ) → s < slots → subℕ (getD reactives s 0) (32768 * count) ≡ sumIn s c .q)
-      → ((s : ℕ) → s < slots → getD limits s 0 ≡ getD (b .limits) s 0) → slotsBytes count actives reactives limits slots ≡ slotLines (slotSums b c)
-  unfolding slotsBytes slotLines slotSums
+      → ((s : ℕ) → s < slots → getD limits s 0 ≡ getD (b .limits) s 0) → slotsBytes count actives reactives limits slots ≡ slotLines (sumsAndLimits b c)
+  unfolding slotsBytes slotLines sumsAndLimits
   slots-are ps qs ls =
       sym
-      (pieces-are lineAt slotLine (sumAt 0) (map sumAt (upto slots)) 0 at
-      ∙ ap (λ n. concat (map lineAt (upto n))) (length-upto sumAt slots))
+      (pieces-are lineAt slotLine (sumsAndLimit b c 0) (map (sumsAndLimit b c) (upto slots)) 0 at
+      ∙ ap (λ n. concat (map lineAt (upto n))) (length-upto (sumsAndLimit b c) slots))
     where
-      at : (s : ℕ) → s < length (map sumAt (upto slots)) → slotLine (getD (map sumAt (upto slots)) s (sumAt 0)) ≡ lineAt (0 + s)
+      at : (s : ℕ) → s < length (map (sumsAndLimit b c) (upto slots)) → slotLine (getD (map (sumsAndLimit b c) (upto slots)) s (sumsAndLimit b c 0)) ≡ lineAt (0 + s)
       at s h =
-          let l : s < slots = omega (arith, length-upto sumAt slots) in
-          ap slotLine (getD-upto sumAt slots s (sumAt 0) l)
-          ∙ slot-is (sumAt s) (getD actives s 0) (wordIn count reactives s) (getD limits s 0) (ps s l) (ap (unsigned 32) (qs s l)) (ls s l)
+          let l : s < slots = omega (arith, length-upto (sumsAndLimit b c) slots) in
+          ap slotLine (getD-upto (sumsAndLimit b c) slots s (sumsAndLimit b c 0) l)
+          ∙ slot-is (sumsAndLimit b c s) (getD actives s 0) (wordIn count reactives s) (getD limits s 0) (ps s l) (ap (unsigned 32) (qs s l)) (ls s l)
           ∙ ap lineAt (sym (zero-add s))

@@ -1,6 +1,6 @@
 -- The proved table: document 01's starred cases ("Trials at the bench"), the ends of M-102's range, two overloads near M-106's bound, charges (M-100),
--- orders of starting (M-101), views (M-103), and edges where a near mistake shows, as one table of facts about the definitions, with one statement covering it. Star n is
--- the n-th star of document 01.
+-- orders of starting (M-101), views (M-103), and edges where a near mistake shows, as one table of facts about the definitions, with one statement covering
+-- it. Star n is the n-th star of document 01.
 -- Assumes nothing.
 use mathlib.Core.Path.{_≡_, refl, ap₂, _∙_}
 use mathlib.Core.Bool.{Bool, true, false, _&&_}
@@ -12,16 +12,17 @@ use lib.Count.{onesIn, ones}
 use lib.Dec.{leb, ltb, eqb}
 use lib.IntN.{ℤ, pos, negℤ}
 use lib.ListN.{length, replicate}
+use Rattle.model.specs.declared.Answer.{Answer}
 use Rattle.model.specs.declared.ChargeAnswer.{ChargeAnswer}
 use Rattle.model.specs.Lists.{upto, all, any, concat, sameLists}
 use Rattle.model.specs.Frames.{isDigit, digitValue, digit, valueFrom, field, digits, signed, unsigned, lineLength}
 use Rattle.model.specs.Refusals.{Result, refused, done, numberOf, first}
-use Rattle.model.specs.Answers.{Output}
+use Rattle.model.specs.Answers.{Output, answerOf}
 use Rattle.model.specs.Book.{Problem, optionStart, headerRules, someExceeds, loadRules, readLoads, readBook}
 use Rattle.model.specs.Choice.{square}
 use Rattle.model.specs.Grid.{stepFor, slotsOf, floorDiv, bestAdmitted, plan}
 use Rattle.model.specs.Trials.{cells, sameℤ, reachedCount, trialsUpto, trials}
-use Rattle.model.specs.Sheet.{lf, numbersOf, firstLine, slotSums, slotLine, slotLines, sheetBytes}
+use Rattle.model.specs.Sheet.{lf, numbersOf, firstLine, sumsAndLimits, slotLine, slotLines, sheetBytes}
 use Rattle.model.specs.Calls.{sizeRules, fittingBook, choiceOr, planSheet, plannerResult}
 use Rattle.model.specs.Quick.{optionOne, sizeOf, takeIfFits, quickChoice, quickSheet, quickResult}
 use Rattle.model.specs.Program.{refusalLine, printed, programOutput}
@@ -64,8 +65,9 @@ pub data Row : Type 0 where
   orders : List ℕ → List ℕ → List ℕ → ℕ → List ℕ → Row
   -- the same from the sheet with these c to that with those
   ordersFrom : String → String → List ℕ → ℕ → List ℕ → Row
-  -- the mill's view of a book and a sheet, or the supply company's, in a buffer of so many bytes, printed as the program prints a sheet
-  shows : (List ℕ → List ℕ → ℕ → Result Output) → List ℕ → List ℕ → ℕ → String → Row
+  -- the mill's view of a book and a sheet, or the supply company's, in a buffer of so many bytes: the answer's five numbers, and what is shown, printed as
+  -- the program prints a sheet
+  shows : (List ℕ → List ℕ → ℕ → Result Output) → List ℕ → List ℕ → ℕ → List ℕ → String → Row
 
 abbrev printsFor : String → String → Bool
 printsFor book out = sameLists eqb (programOutput (bytesOf book)) (bytesOf out)
@@ -85,6 +87,10 @@ inSlots test b = all (λ s. test (b .fineness) (s .limit) (apparentSquaredIn (s 
 -- what `overloads` says of a slot, of d, S and z = P² + Q²
 abbrev nearBound : ℕ → ℕ → ℕ → Bool
 nearBound d s z = ltb (square (2 * d + 2) * square s) (4 * square d * z) && leb (4 * square d * z) (closerBound d s)
+
+-- the answer's numbers
+abbrev answerNumbers : Answer → List ℕ
+answerNumbers a = a .number ∷ a .line ∷ a .bytes ∷ a .worth ∷ a .trials ∷ []
 
 -- the answer's number, line and charge
 abbrev chargeNumbers : ChargeAnswer → List ℕ
@@ -124,7 +130,8 @@ holds (charges book sheet prices numbers) = sameLists eqb (chargeNumbers (charge
 holds (orders old new names room numbers) = sameLists eqb (orderNumbers (loadsOrder 3 names room (among old) (among new))) numbers
 holds (ordersFrom old new names room numbers) =
     sameLists eqb (orderNumbers (orderResult levelsBook (levelsSheet old) (levelsSheet new) names room)) numbers
-holds (shows view book sheet room out) = sameLists eqb (printed (view book sheet room)) (bytesOf out)
+holds (shows view book sheet room numbers out) =
+    sameLists eqb (answerNumbers (answerOf (view book sheet room))) numbers && sameLists eqb (printed (view book sheet room)) (bytesOf out)
 
 -- two slots, and one load with P = 20 and P = 4; and the sheet on which it runs
 abbrev halvesBook : List ℕ
@@ -143,8 +150,8 @@ fullSheet =
     bytesOf "040000000000000000" ++ concat (replicate 24 (bytesOf "01")) ++ lf ++ concat (replicate 4 (bytesOf "050017FFE800000000FFFF\n"))
 
 -- document 01's book and sheet; and a book of one load with the sheet on which it runs, with the same sums and limit
-abbrev exampleBook : List ℕ
-exampleBook = bytesOf "0101030400000064000A\n0201000500050005\n020100050004FFFC\n0201000400040000\n"
+abbrev example : String
+example = "0101030400000064000A\n0201000500050005\n020100050004FFFC\n0201000400040000\n"
 
 abbrev exampleSheet : List ℕ
 exampleSheet = bytesOf "040000000A0000000E010100\n050000000900000001000A\n"
@@ -192,14 +199,14 @@ planRows =
     ∷ overloads "010103080000006414B9\n0201003C08A1060A\n0201002806E70450\n0201001904500373\n"
     "040000007D0000000E010101\n05000013D800000DCD14B9\n"
     -- document 01's book and sheet
-    ∷ prints "0101030400000064000A\n0201000500050005\n020100050004FFFC\n0201000400040000\n"
+    ∷ prints example
     "040000000A0000000E010100\n050000000900000001000A\n"
     -- star 1, of that book: L = 1; 2 + 4 + 8 trials; 82 ≤ 100, of the limit itself
     ∷ steps 3 4 10 1
-    ∷ tries "0101030400000064000A\n0201000500050005\n020100050004FFFC\n0201000400040000\n" (2 ∷ 4 ∷ 8 ∷ [])
-    ∷ carries "0101030400000064000A\n0201000500050005\n020100050004FFFC\n0201000400040000\n" 0 82 100
+    ∷ tries example (2 ∷ 4 ∷ 8 ∷ [])
+    ∷ carries example 0 82 100
     -- star 2: the quick planner
-    ∷ quickPrints "0101030400000064000A\n0201000500050005\n020100050004FFFC\n0201000400040000\n"
+    ∷ quickPrints example
     "040000000900000003000101\n0500000008FFFFFFFC000A\n"
     -- star 3: budget 14
     ∷ prints "010103040000000E000A\n0201000500050005\n020100050004FFFC\n0201000400040000\n"
@@ -223,7 +230,7 @@ planRows =
     ∷ prints "01010101000000640064\n020100010004FFFB\n" "FF070002\n"
     ∷ []
 
--- of sheets: charges, views and orders of starting, the longest book last
+-- of sheets: charges, orders of starting and views, the longest book last
 unfoldable pub sheetRows : List Row
 sheetRows =
     -- M-100: under a half, a half, and halves again
@@ -239,20 +246,6 @@ sheetRows =
     -- M-100, two faults: 13 comes before 14, and the book's 7 before both
     ∷ charges halvesBook [] [] (13 ∷ 0 ∷ 0 ∷ [])
     ∷ charges (bytesOf "01010101000000640064\n020100010004FFFB\n") [] [] (7 ∷ 2 ∷ 0 ∷ [])
-    -- M-103: of one load that runs, and where it stands; at the room that is due, and with a byte less
-    ∷ shows millResult twinBook twinSheet 15 "09000000010101\n"
-    ∷ shows millResult twinBook twinSheet 14 "FF0B0000\n"
-    ∷ shows millResult twinBook standingSheet 11 "0900000000\n"
-    ∷ shows supplyResult twinBook twinSheet 22 "FF0B0000\n"
-    -- M-103: of two books with the same sums and limit the supply company sees the same
-    ∷ shows supplyResult twinBook twinSheet 23 "050000000900000001000A\n"
-    ∷ shows supplyResult exampleBook exampleSheet 23 "050000000900000001000A\n"
-    -- M-103, two faults: 13 comes before 11, and 1 before 13
-    ∷ shows millResult twinBook [] 0 "FF0D0000\n"
-    ∷ shows supplyResult twinBook [] 0 "FF0D0000\n"
-    ∷ shows supplyResult [] [] 0 "FF010001\n"
-    -- M-103: the lowest number first, at its level
-    ∷ shows millResult levelsBook (levelsSheet "000201") 19 "090000000002020301\n"
     -- M-101, where load 1 names 3: all start, the lowest of those ready first; highest first would be 3, 2, 1
     ∷ orders [] (1 ∷ 2 ∷ 3 ∷ []) (3 ∷ 0 ∷ 0 ∷ []) 3 (0 ∷ 3 ∷ 0 ∷ 2 ∷ 3 ∷ 1 ∷ [])
     -- M-101: load 3 runs already, so load 2, which names it, is ready at once
@@ -280,6 +273,20 @@ sheetRows =
     -- M-101, two faults: 13 of either sheet comes before 15
     ∷ ordersFrom "030000" "000000" [] 0 (13 ∷ 0 ∷ [])
     ∷ ordersFrom "000000" "030000" [] 0 (13 ∷ 0 ∷ [])
+    -- M-103: of one load that runs, and where it stands; at the room that is due, and with a byte less
+    ∷ shows millResult twinBook twinSheet 15 (0 ∷ 0 ∷ 15 ∷ 0 ∷ 0 ∷ []) "09000000010101\n"
+    ∷ shows millResult twinBook twinSheet 14 (11 ∷ 0 ∷ 0 ∷ 0 ∷ 0 ∷ []) "FF0B0000\n"
+    ∷ shows millResult twinBook standingSheet 11 (0 ∷ 0 ∷ 11 ∷ 0 ∷ 0 ∷ []) "0900000000\n"
+    ∷ shows supplyResult twinBook twinSheet 22 (11 ∷ 0 ∷ 0 ∷ 0 ∷ 0 ∷ []) "FF0B0000\n"
+    -- M-103: of two books with the same sums and limit the supply company sees the same
+    ∷ shows supplyResult twinBook twinSheet 23 (0 ∷ 0 ∷ 23 ∷ 0 ∷ 0 ∷ []) "050000000900000001000A\n"
+    ∷ shows supplyResult (bytesOf example) exampleSheet 23 (0 ∷ 0 ∷ 23 ∷ 0 ∷ 0 ∷ []) "050000000900000001000A\n"
+    -- M-103, two faults: 13 comes before 11, and 1 before 13
+    ∷ shows millResult twinBook [] 0 (13 ∷ 0 ∷ 0 ∷ 0 ∷ 0 ∷ []) "FF0D0000\n"
+    ∷ shows supplyResult twinBook [] 0 (13 ∷ 0 ∷ 0 ∷ 0 ∷ 0 ∷ []) "FF0D0000\n"
+    ∷ shows supplyResult [] [] 0 (1 ∷ 1 ∷ 0 ∷ 0 ∷ 0 ∷ []) "FF010001\n"
+    -- M-103: the lowest number first, at its level
+    ∷ shows millResult levelsBook (levelsSheet "000201") 19 (0 ∷ 0 ∷ 19 ∷ 0 ∷ 0 ∷ []) "090000000002020301\n"
     -- M-100: the largest charge
     ∷ charges fullBook fullSheet (65535 ∷ 65535 ∷ 65535 ∷ 65535 ∷ []) (0 ∷ 0 ∷ 10307606940 ∷ [])
     ∷ []
@@ -287,13 +294,13 @@ sheetRows =
 plan-rows-hold : all holds planRows ≡ true
 unfolding holds planRows programOutput refusalLine plannerResult planSheet fittingBook sizeRules
     readBook readLoads headerRules loadRules someExceeds optionStart first isDigit digitValue digit valueFrom field digits signed unsigned lineLength
-    slotsOf plan bestAdmitted cells trials reachedCount sheetBytes firstLine slotLines slotSums slotLine numbersOf quickResult quickSheet quickChoice takeIfFits sizeOf optionOne
+    slotsOf plan bestAdmitted cells trials reachedCount sheetBytes firstLine slotLines sumsAndLimits slotLine numbersOf quickResult quickSheet quickChoice takeIfFits sizeOf optionOne
 plan-rows-hold = refl
 
 sheet-rows-hold : all holds sheetRows ≡ true
 unfolding holds sheetRows refusalLine
     readBook readLoads headerRules loadRules someExceeds optionStart first isDigit digitValue digit valueFrom field digits signed unsigned lineLength
-    sheetBytes firstLine slotLines slotSums slotLine numbersOf sheetChoice
+    sheetBytes firstLine slotLines sumsAndLimits slotLine numbersOf sheetChoice
     chargeResult sheetCharge choiceCharge chargeOf rounded
     accepted shown runningLoads numberAndLevel millLine millResult supplyView supplyResult
     orderResult sheetsOrder loadsOrder starting runningMask andNot startCount wrongNames someBlocked left ready startNext startedAfter startOrder ones onesIn

@@ -3,7 +3,7 @@
 use mathlib.Core.Path.{_≡_, refl, sym, ap, ap₂, _∙_, subst}
 use mathlib.Core.Logic.{inl, inr}
 use mathlib.Core.Bool.{Bool, true, false, cond, not, _&&_, _||_, false≢true}
-use mathlib.Core.List.{List, [], _∷_, _++_, map}
+use mathlib.Core.List.{List, [], _∷_, _++_, map, append-assoc, append-nil}
 use Prim.Native.Nat.{ℕ, zero, suc, _+_, _*_, _<_, _≤_}
 use native.Mathlib.Nat.{le-of-suc-le-suc}
 use native.Mathlib.Numerals.{add-one}
@@ -238,6 +238,10 @@ below-same f g (suc n) h = ap₂ _+_ (below-same f g n (λ s l. h s (omega arith
 pub length-concat : {A B : Type 0} (f : A → List B) (k : ℕ) → ((x : A) → length (f x) ≡ k) → (xs : List A) → length (concat (map f xs)) ≡ k * length xs
 length-concat f k h [] = omega arith
 length-concat f k h (x ∷ xs) = length-append (f x) (concat (map f xs)) ∙ (omega (arith, h x, length-concat f k h xs))
+
+pub concat-last : {A : Type 0} (xss : List (List A)) (ys : List A) → concat (xss ++ (ys ∷ [])) ≡ concat xss ++ ys
+concat-last [] ys = append-nil ys
+concat-last (xs ∷ xss) ys = ap (λ r. xs ++ r) (concat-last xss ys) ∙ sym (append-assoc xs (concat xss) ys)
 
 -- of the elements that pass a test, one after the other
 pub concat-keep : {A B : Type 0} (p : A → Bool) (f : A → List B) (xs : List A) → concat (map f (keep p xs)) ≡ concat (map (λ x. cond (p x) (f x) []) xs)

@@ -18,8 +18,8 @@ use Rattle.model.specs.Lists.{Mem, Every, sameLists}
 use Rattle.model.specs.Frames.{digits, field}
 use Rattle.model.specs.Refusals.{Result, done, first, checked, andThen}
 use Rattle.model.specs.Book.{Setting, Settings, Problem, readBook}
-use Rattle.model.specs.Choice.{Choice, IsChoice, worthOf, codeOf, sumIn, noSetting, settingNumbered}
-use Rattle.model.specs.Sheet.{lf, numbersOf, firstLine, SlotSum, slotSums, slotLine, slotLines, sheetBytes, sheetLength}
+use Rattle.model.specs.Choice.{Choice, IsChoice, worthOf, codeOf, noSetting, settingNumbered}
+use Rattle.model.specs.Sheet.{lf, numbersOf, firstLine, SumsAndLimit, sumsAndLimit, sumsAndLimits, slotLine, slotLines, sheetBytes, sheetLength}
 use Rattle.model.specs.SheetReader.{foreignRules, SheetOf, SheetData, consBoth, choiceFrom, trialsOn, ifBelongs, sheetChoice, sheetData, readerResult}
 use Rattle.model.specs.Valid.{Numbered, Labelled}
 use Rattle.model.proofs.ListLaws.{length-concat, same-eq, same-refl}
@@ -39,20 +39,20 @@ pub length-first : (c : Choice) (t : ℕ) → length (firstLine c t) ≡ 19 + 2 
 unfolding firstLine
 length-first c t = simp (length-append, length-digits, length-numbers) (omega arith)
 
-pub length-slot : (x : SlotSum) → length (slotLine x) ≡ 23
+pub length-slot : (x : SumsAndLimit) → length (slotLine x) ≡ 23
 unfolding slotLine
 length-slot x = simp (length-append, length-digits) (omega arith)
 
-pub length-slot-lines : (b : Problem) (c : Choice) → length (slotLines (slotSums b c)) ≡ 23 * length (b .limits)
-unfolding slotLines slotSums
+pub length-slot-lines : (b : Problem) (c : Choice) → length (slotLines (sumsAndLimits b c)) ≡ 23 * length (b .limits)
+unfolding slotLines sumsAndLimits
 length-slot-lines b c =
-    length-concat slotLine 23 length-slot (slotSums b c)
-    ∙ ap (λ n. 23 * n) (length-upto (λ s. record { sum = sumIn s c; limit = getD (b .limits) s 0 }) (length (b .limits)))
+    length-concat slotLine 23 length-slot (sumsAndLimits b c)
+    ∙ ap (λ n. 23 * n) (length-upto (sumsAndLimit b c) (length (b .limits)))
 
 pub sheet-length : (b : Problem) (c : Choice) (t : ℕ) → length c ≡ length (b .loads) → length (sheetBytes b c t) ≡ sheetLength b
 unfolding sheetBytes
 sheet-length b c t e =
-    length-append (firstLine c t) (slotLines (slotSums b c))
+    length-append (firstLine c t) (slotLines (sumsAndLimits b c))
     ∙ (omega (arith, length-first c t, length-slot-lines b c))
 
 -- ---- the fields of the first line
@@ -61,7 +61,7 @@ sheet-length b c t e =
 abbrev starting : Choice → ℕ → List ℕ → List ℕ
 starting c t rest = digits 2 4 ++ (digits 8 (worthOf c) ++ (digits 8 t ++ (numbersOf c ++ rest)))
 
-sheet-starts : (b : Problem) (c : Choice) (t : ℕ) (past : List ℕ) → sheetBytes b c t ++ past ≡ starting c t (lf ++ (slotLines (slotSums b c) ++ past))
+sheet-starts : (b : Problem) (c : Choice) (t : ℕ) (past : List ℕ) → sheetBytes b c t ++ past ≡ starting c t (lf ++ (slotLines (sumsAndLimits b c) ++ past))
 unfolding sheetBytes firstLine
 sheet-starts b c t past = simp append-assoc
 
@@ -89,7 +89,7 @@ numbers-at bytes rest i (v ∷ c) u h e (suc k) l =
 
 module _ (b : Problem) (c : Choice) (t : ℕ) (bytes past : List ℕ) (e : bytes ≡ sheetBytes b c t ++ past) where
   rest : List ℕ
-  rest = lf ++ (slotLines (slotSums b c) ++ past)
+  rest = lf ++ (slotLines (sumsAndLimits b c) ++ past)
 
   at-worth : drop 2 bytes ≡ digits 8 (worthOf c) ++ (digits 8 t ++ (numbersOf c ++ rest))
   unfolding rest

@@ -10,8 +10,8 @@ use native.Mathlib.Numerals.{add-one}
 use native.Mathlib.Omega.{arith}
 use lib.ListN.{length, getD, take, set}
 use lib.Seq.{take-all, take-suc-set, ext-getD}
-use Rattle.model.specs.Lists.{uptoFrom, upto, Every, any}
-use Rattle.model.proofs.ListLaws.{any-join}
+use Rattle.model.specs.Lists.{uptoFrom, upto, Every, any, concat}
+use Rattle.model.proofs.ListLaws.{any-join, concat-last}
 use Rattle.model.proofs.IntegerLaws.{split}
 
 pub suc-across : (i k : ℕ) → i + suc k ≡ suc i + k
@@ -107,6 +107,13 @@ module _ {A : Type 0} (f : ℕ → A) where
         ∙ ap (any p) (map-last n)
         ∙ any-join p (map f (upto n)) (f n ∷ [])
         ∙ ap₂ (λ t u. t || (u || false)) a b
+
+-- one piece more, where each number has a list
+pub pieces-last : {A : Type 0} (f : ℕ → List A) (n : ℕ) → concat (map f (upto (n + 1))) ≡ concat (map f (upto n)) ++ f n
+pieces-last f n =
+    ap (λ m. concat (map f (upto m))) (add-one n)
+    ∙ ap concat (map-last f n)
+    ∙ concat-last (map f (upto n)) (f n)
 
 -- two functions that agree, and one element changed
 module _ {A : Type 0} (f g : ℕ → A) where

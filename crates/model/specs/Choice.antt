@@ -54,7 +54,7 @@ settingNumbered n (v ∷ vs) = cond (eqb (v .number) n) (some v) (settingNumbere
 abbrev pub noSetting : Setting
 noSetting = record { number = 0; worth = 0; powers = [] }
 
--- load k's number c, its level where it runs; there is no load 0
+-- for document 02 (M-101, M-103): load k's number c, its level where it runs; there is no load 0
 abbrev pub levelOn : Choice → ℕ → ℕ
 levelOn c zero = 0
 levelOn c (suc k) = getD c k noSetting .number

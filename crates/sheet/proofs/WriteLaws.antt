@@ -2,19 +2,17 @@
 -- Assumes nothing.
 use Prim.Native.Nat.{ℕ, _+_, _-_, _*_, _^_, _≤_, _<_}
 use mathlib.Core.Path.{_≡_, sym, ap, ap₂, _∙_}
-use mathlib.Core.List.{List, [], _++_, map}
+use mathlib.Core.List.{List, [], _++_}
 use native.Mathlib.Nat.{zero-add}
 use native.Mathlib.Omega.{arith}
 use lib.IntN.{subℕ}
 use lib.ListN.{length, getD, take, drop}
 use Rattle.model.specs.declared.Book.{Book}
-use Rattle.model.specs.Lists.{upto}
-use Rattle.model.specs.Frames.{unsigned}
 use Rattle.model.specs.Refusals.{done}
 use Rattle.model.specs.Book.{Setting, Problem}
 use Rattle.model.specs.Choice.{Choice, IsChoice, worthOf, sumIn, noSetting}
 use Rattle.model.specs.Answers.{bufferAfter}
-use Rattle.model.specs.Sheet.{firstLine, slotSums, slotLines, sheetBytes, sheetLength, sheetOf}
+use Rattle.model.specs.Sheet.{firstLine, sumsAndLimits, slotLines, sheetBytes, sheetLength, sheetOf}
 use Rattle.model.specs.Valid.{Labelled, ValidBook}
 use Rattle.model.specs.Values.{Held, Picked, settingOf, choiceOf, problemOf}
 use Rattle.model.proofs.ListLaws.{every-at}
@@ -26,13 +24,13 @@ use Rattle.model.proofs.RaisedLaws.{raised-less}
 use Rattle.model.proofs.SumLaws.{sum-small, choice-small}
 use Rattle.model.proofs.HeldLaws.{held-valid, held-count, held-slots, held-four, held-limit}
 use Rattle.hex.specs.Written.{written}
-use Rattle.hex.proofs.WrittenLaws.{written-start}
+use Rattle.hex.proofs.WrittenLaws.{written-start, then-written}
 use Rattle.sums.specs.declared.Sums.{Sums}
 use Rattle.sums.specs.Sums.{sumsValue}
 use Rattle.sums.proofs.SumsLaws.{sums-active, sums-reactive, choice-sums}
 use Rattle.sums.proofs.PickLaws.{picked-choice}
 use Rattle.lines.specs.Lines.{firstBytes, slotsBytes}
-use Rattle.lines.proofs.LineLaws.{then-written, first-is, slots-are}
+use Rattle.lines.proofs.LineLaws.{first-is, slots-are}
 
 -- ---- the sheet of a choice whose numbers are in an array
 
@@ -68,7 +66,7 @@ module _ (book : Book) (h : Held book) (picks : List ℕ) (picked : Picked (prob
 
   -- the code's numbers give the slot lines of the definitions
   pub slots-lines : (sums : Sums) → sums ≡ sumsValue c
-      → slotsBytes (book .count) (sums .actives) (sums .reactives) (book .limits) (book .slots) ≡ slotLines (slotSums b c)
+      → slotsBytes (book .count) (sums .actives) (sums .reactives) (book .limits) (book .slots) ≡ slotLines (sumsAndLimits b c)
   slots-lines sums e =
       ap (slotsBytes (book .count) (sums .actives) (sums .reactives) (book .limits)) (held-slots book h)
       ∙ slots-are b c (book .count) (sums .actives) (sums .reactives) (book .limits)
@@ -99,7 +97,7 @@ module _ (book : Book) (h : Held book) (picks : List ℕ) (picked : Picked (prob
       let first-line : firstBytes picks (book .count) worth trials ≡ firstLine c trials
       = ap (λ v. firstBytes picks (book .count) v trials) f
       ∙ first-is c picks (book .count) count-is (λ k i. number-at b picks (held-valid book h) picked k (omega (arith, held-count book h))) trials in
-      then-written l l₁ l₂ (firstLine c trials) (slotLines (slotSums b c)) p (first ∙ ap (written l 0) first-line)
+      then-written l l₁ l₂ (firstLine c trials) (slotLines (sumsAndLimits b c)) p (first ∙ ap (written l 0) first-line)
       (rest ∙ ap (written (take (length l₁ - p) (drop p l₁)) 0) (slots-lines sums e))
       (omega (arith, length-first c trials, count-is)) (omega (arith, length-slot-lines b c, held-count book h))
       ∙ written-start l (sheetBytes b c trials)

@@ -1,3 +1,3 @@
 -- Laws that the functions' proofs cite.
-pub mod EntryLaws
+pub mod MillLaws
 pub mod ReadLaws

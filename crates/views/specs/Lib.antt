@@ -1,3 +1,3 @@
 -- The definitions that the contracts of the views cite.
 pub mod Read
-pub mod Entries
+pub mod MillLine

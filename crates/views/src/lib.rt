@@ -8,12 +8,12 @@ ghost use Prim.Native.Nat.{suc, _+_, _≤_, _<_};
 ghost use lib.ListN.{length};
 ghost use Rattle.model.specs.Answers.{Writes};
 ghost use Rattle.model.specs.Bounds.{mostLoads};
-ghost use Rattle.model.specs.Sheet.{slotSums};
+ghost use Rattle.model.specs.Sheet.{sumsAndLimits};
 ghost use Rattle.model.specs.Values.{Held, Picked, choiceOf, problemOf};
-ghost use Rattle.model.specs.Views.{shown, millLine, supplyView, millResult, supplyResult, SumsAlone};
+ghost use Rattle.model.specs.Views.{shown, millLine, supplyView, millResult, supplyResult, NothingElse};
 ghost use Rattle.hex.specs.Written.{written};
 ghost use Rattle.views.specs.Read.{Read};
-ghost use Rattle.views.specs.Entries.{entry, entriesIn, lineIn};
+ghost use Rattle.views.specs.MillLine.{loadBytes, loadsBytes, millBytes};
 
 // What was read of a book and a sheet: the answer of a refusal, or number 0, the book and the numbers of the sheet's choice.
 pub struct SheetReading {
@@ -55,9 +55,9 @@ fn read(book: &[u8], sheet: &[u8]) -> SheetReading
 }
 
 // How many bytes number and level of the running loads take.
-fn entries_length(picks: [usize; Book::LOADS], count: usize) -> usize
+fn loads_length(picks: [usize; Book::LOADS], count: usize) -> usize
     requires { ⌜ count ≤ mostLoads ⌝ }
-    ensures { λ r. ⌜ r ≡ length (entriesIn picks count) ⌝ }
+    ensures { λ r. ⌜ r ≡ length (loadsBytes picks count) ⌝ }
 {
     let mut bytes = 0;
     let mut k = 0;
@@ -71,11 +71,11 @@ fn entries_length(picks: [usize; Book::LOADS], count: usize) -> usize
 }
 
 // Writes number and level of load k + 1 from `at` on, where it runs, and answers the place after what was written.
-fn write_entry(view: &mut [u8], at: usize, k: usize, level: usize) -> usize
+fn write_load(view: &mut [u8], at: usize, k: usize, level: usize) -> usize
     requires { ⌜ k < mostLoads ⌝ }
-    requires { ⌜ at + length (entry (suc k) level) ≤ length (now view) ⌝ }
-    ensures bytes { λ _. ⌜ now (view .exit) ≡ written (now (view .entry)) at (entry (suc k) level) ⌝ }
-    ensures next { λ r. ⌜ r ≡ at + length (entry (suc k) level) ⌝ }
+    requires { ⌜ at + length (loadBytes (suc k) level) ≤ length (now view) ⌝ }
+    ensures bytes { λ _. ⌜ now (view .exit) ≡ written (now (view .entry)) at (loadBytes (suc k) level) ⌝ }
+    ensures next { λ r. ⌜ r ≡ at + length (loadBytes (suc k) level) ⌝ }
 {
     if level == 0 {
         return at;
@@ -86,16 +86,16 @@ fn write_entry(view: &mut [u8], at: usize, k: usize, level: usize) -> usize
 }
 
 // Writes number and level of the running loads from `at` on, and answers the place after them.
-fn write_entries(view: &mut [u8], at: usize, picks: [usize; Book::LOADS], count: usize) -> usize
+fn write_loads(view: &mut [u8], at: usize, picks: [usize; Book::LOADS], count: usize) -> usize
     requires { ⌜ count ≤ mostLoads ⌝ }
-    requires { ⌜ at + length (entriesIn picks count) ≤ length (now view) ⌝ }
-    ensures bytes { λ _. ⌜ now (view .exit) ≡ written (now (view .entry)) at (entriesIn picks count) ⌝ }
-    ensures next { λ r. ⌜ r ≡ at + length (entriesIn picks count) ⌝ }
+    requires { ⌜ at + length (loadsBytes picks count) ≤ length (now view) ⌝ }
+    ensures bytes { λ _. ⌜ now (view .exit) ≡ written (now (view .entry)) at (loadsBytes picks count) ⌝ }
+    ensures next { λ r. ⌜ r ≡ at + length (loadsBytes picks count) ⌝ }
 {
     let mut next = at;
     let mut k = 0;
     while k < count {
-        next = write_entry(view, next, k, picks[k]);
+        next = write_load(view, next, k, picks[k]);
         k += 1;
     }
     next
@@ -104,12 +104,12 @@ fn write_entries(view: &mut [u8], at: usize, picks: [usize; Book::LOADS], count:
 // Writes the mill's line from the start on.
 fn write_line(view: &mut [u8], worth: u64, picks: [usize; Book::LOADS], count: usize)
     requires { ⌜ count ≤ mostLoads ⌝ }
-    requires { ⌜ 11 + length (entriesIn picks count) ≤ length (now view) ⌝ }
-    ensures { λ _. ⌜ now (view .exit) ≡ written (now (view .entry)) 0 (lineIn worth picks count) ⌝ }
+    requires { ⌜ 11 + length (loadsBytes picks count) ≤ length (now view) ⌝ }
+    ensures { λ _. ⌜ now (view .exit) ≡ written (now (view .entry)) 0 (millBytes worth picks count) ⌝ }
 {
     hex::write(view, 0, 2, 9);
     hex::write(view, 2, 8, worth);
-    let end = write_entries(view, 10, picks, count);
+    let end = write_loads(view, 10, picks, count);
     view[end] = 10;
 }
 
@@ -117,10 +117,10 @@ fn write_line(view: &mut [u8], worth: u64, picks: [usize; Book::LOADS], count: u
 fn mill_of(book: Book, picks: [usize; Book::LOADS], view: &mut [u8]) -> Answer
     requires { ⌜ Held book ⌝ }
     requires { ⌜ Picked (problemOf book) picks ⌝ }
-    ensures { λ r. ⌜ Writes (shown (length (now (view .entry))) (millLine (choiceOf (problemOf book) picks))) (now (view .entry)) (now (view .exit)) r ⌝ }
+    ensures { λ r. ⌜ Writes (shown (millLine (choiceOf (problemOf book) picks)) (length (now (view .entry)))) (now (view .entry)) (now (view .exit)) r ⌝ }
 {
     let count = book.count;
-    let bytes = 11 + entries_length(picks, count);
+    let bytes = 11 + loads_length(picks, count);
     if view.len() < bytes {
         return Answer::refusal(Refusal::BufferTooSmall, 0);
     }
@@ -133,7 +133,7 @@ fn mill_of(book: Book, picks: [usize; Book::LOADS], view: &mut [u8]) -> Answer
 fn supply_of(book: Book, picks: [usize; Book::LOADS], view: &mut [u8]) -> Answer
     requires { ⌜ Held book ⌝ }
     requires { ⌜ Picked (problemOf book) picks ⌝ }
-    ensures { λ r. ⌜ Writes (supplyView (slotSums (problemOf book) (choiceOf (problemOf book) picks)) (length (now (view .entry)))) (now (view .entry)) (now (view .exit)) r ⌝ }
+    ensures { λ r. ⌜ Writes (supplyView (sumsAndLimits (problemOf book) (choiceOf (problemOf book) picks)) (length (now (view .entry)))) (now (view .entry)) (now (view .exit)) r ⌝ }
 {
     let bytes = 23 * book.slots;
     if view.len() < bytes {
@@ -151,27 +151,27 @@ fn supply_of(book: Book, picks: [usize; Book::LOADS], view: &mut [u8]) -> Answer
 pub fn mill_view(book: &[u8], sheet: &[u8], view: &mut [u8]) -> Answer
     ensures { λ r. ⌜ Writes (millResult (now (book .entry)) (now (sheet .entry)) (length (now (view .entry)))) (now (view .entry)) (now (view .exit)) r ⌝ }
 {
-    let read = read(book, sheet);
-    let answer = read.answer;
+    let reading = read(book, sheet);
+    let answer = reading.answer;
     if answer.number != 0 {
         return answer;
     }
-    let book = read.book;
-    let picks = read.picks;
+    let book = reading.book;
+    let picks = reading.picks;
     mill_of(book, picks, view)
 }
 
 // The supply company's view of a sheet.
 pub fn supply_view(book: &[u8], sheet: &[u8], view: &mut [u8]) -> Answer
     ensures result { λ r. ⌜ Writes (supplyResult (now (book .entry)) (now (sheet .entry)) (length (now (view .entry)))) (now (view .entry)) (now (view .exit)) r ⌝ }
-    ensures alone { λ r. ⌜ SumsAlone (now (book .entry)) (now (sheet .entry)) (now (view .entry)) (now (view .exit)) r ⌝ }
+    ensures alone { λ r. ⌜ NothingElse (now (book .entry)) (now (sheet .entry)) (now (view .entry)) (now (view .exit)) r ⌝ }
 {
-    let read = read(book, sheet);
-    let answer = read.answer;
+    let reading = read(book, sheet);
+    let answer = reading.answer;
     if answer.number != 0 {
         return answer;
     }
-    let book = read.book;
-    let picks = read.picks;
+    let book = reading.book;
+    let picks = reading.picks;
     supply_of(book, picks, view)
 }

@@ -25,7 +25,7 @@ pub fn supply(sheet: &[u8]) -> Vec<u8> {
 #[cfg(test)]
 mod tests {
     use super::*;
-    use crate::draw::longest;
+    use crate::draw::longest_views;
     use crate::reference::{sheet, Case, EXAMPLE};
     use crate::VIEW_MAX;
 
@@ -51,14 +51,14 @@ mod tests {
     #[test]
     fn loads_that_stand_are_left_out() {
         let mut choice = [0; 24];
-        assert_eq!(mill(&longest(), &choice), b"0900000000\n");
+        assert_eq!(mill(&longest_views(), &choice), b"0900000000\n");
         (choice[9], choice[23]) = (2, 1);
-        assert_eq!(mill(&longest(), &choice), b"09000000030A021801\n");
+        assert_eq!(mill(&longest_views(), &choice), b"09000000030A021801\n");
     }
 
     #[test]
     fn the_longest_views() {
-        let (book, choice) = (longest(), [2; 24]);
+        let (book, choice) = (longest_views(), [2; 24]);
         assert_eq!(mill(&book, &choice).len(), VIEW_MAX);
         assert_eq!(supply(&sheet::write(&book, &choice, 0)).len(), 92);
     }

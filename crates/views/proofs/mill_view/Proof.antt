@@ -3,7 +3,7 @@ use lib.ListN.{length}
 use borrow.Author.Needs.{needs}
 use Rattle.model.specs.Views.{shown, millLine, millResult}
 use Rattle.model.proofs.AnswerLaws.{writes-same}
-use Rattle.views.proofs.ReadLaws.{turned-writes, taken-then}
+use Rattle.views.proofs.ReadLaws.{refused-view, accepted-then}
 use Rattle.views.proofs.mill_view.Statement.{statement}
 use Rattle.views.proofs.mill_view.Tie as tie
 
@@ -15,12 +15,12 @@ unfolding millResult
 returns c =
     let a = c .before .before .before .before .before .before .before .args in
     let r = c .before .before .before .read in
-    turned-writes (a .book .now) (a .sheet .now) (r .result) (λ x. shown (length (a .view .now)) (millLine (x .choice)))
-    (r .ensures .turned (c .if1 .taken)) (a .view .now)
+    refused-view (a .book .now) (a .sheet .now) (r .result) (λ x. shown (millLine (x .choice)) (length (a .view .now)))
+    (r .ensures .refuses (c .if1 .taken)) (a .view .now)
 
 mill-of-requires : tie.Need-mill-of-requires
 mill-of-requires c κs =
-    let t = c .before .before .before .before .before .before .read .ensures .taken (c .before .before .before .if1 .left) in
+    let t = c .before .before .before .before .before .before .read .ensures .accepts (c .before .before .before .if1 .left) in
     (t .held, t .picked)
 
 same-length : tie.Need-same-length
@@ -32,8 +32,8 @@ returns-2 c =
     let a = c .before .before .before .before .before .before .before .before .before .before .before .before .before .args in
     let r = c .before .before .before .before .before .before .before .before .before .read in
     writes-same
-    (taken-then (a .book .now) (a .sheet .now) (r .result) (λ x. shown (length (a .view .now)) (millLine (x .choice)))
-    (r .ensures .taken (c .before .before .before .before .before .before .if1 .left)))
+    (accepted-then (a .book .now) (a .sheet .now) (r .result) (λ x. shown (millLine (x .choice)) (length (a .view .now)))
+    (r .ensures .accepts (c .before .before .before .before .before .before .if1 .left)))
     (c .before .before .mill-of .ensures)
 
 pub mill-view-spec : {M : Type 1} → statement M

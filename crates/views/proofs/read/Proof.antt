@@ -1,8 +1,8 @@
--- `views::read` meets its contract: a refusal of the book is passed on, a foreign sheet is refused, and else both are taken. Assumes nothing.
+-- `views::read` meets its contract: a refusal of the book is passed on, a foreign sheet is refused, and else both are accepted. Assumes nothing.
 use borrow.Author.Needs.{needs}
 use borrow.Author.Tests.{not-true, not-false}
 use Rattle.model.proofs.ReadingLaws.{reading-held}
-use Rattle.views.proofs.ReadLaws.{book-refused, sheet-foreign, both-taken}
+use Rattle.views.proofs.ReadLaws.{book-refused, sheet-foreign, both-accepted}
 use Rattle.views.proofs.read.Statement.{statement}
 use Rattle.views.proofs.read.Tie as tie
 
@@ -36,7 +36,7 @@ returns-3 c =
     let a = c .before .before .before .before .before .before .before .before .before .before .before .args in
     let r = c .before .before .before .before .before .before .before .before .read-book in
     let on = c .before .before .before .choice-on in
-    both-taken (a .book .now) (a .sheet .now) (r .result) (r .ensures) (c .before .before .before .before .if1 .left)
+    both-accepted (a .book .now) (a .sheet .now) (r .result) (r .ensures) (c .before .before .before .before .if1 .left)
     (on .result) (on .ensures) (not-false _ (c .if2 .left))
 
 pub read-spec : {M : Type 1} → statement M

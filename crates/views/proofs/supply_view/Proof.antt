@@ -1,10 +1,10 @@
 -- `views::supply_view` meets its contract: a refusal of the book or the sheet is passed on, and else the sums are shown. Assumes nothing.
 use lib.ListN.{length}
 use borrow.Author.Needs.{needs}
-use Rattle.model.specs.Views.{sumsOn, supplyView, supplyResult}
+use Rattle.model.specs.Views.{sumsAndLimitsOn, supplyView, supplyResult}
 use Rattle.model.proofs.AnswerLaws.{writes-same}
-use Rattle.model.proofs.ViewLaws.{sums-alone}
-use Rattle.views.proofs.ReadLaws.{turned-writes, taken-then}
+use Rattle.model.proofs.ViewLaws.{nothing-else}
+use Rattle.views.proofs.ReadLaws.{refused-view, accepted-then}
 use Rattle.views.proofs.supply_view.Statement.{statement}
 use Rattle.views.proofs.supply_view.Tie as tie
 
@@ -16,13 +16,13 @@ unfolding supplyResult
 returns c =
     let a = c .before .before .before .before .before .before .before .args in
     let r = c .before .before .before .read in
-    let w = turned-writes (a .book .now) (a .sheet .now) (r .result) (λ x. supplyView (sumsOn x) (length (a .view .now)))
-    (r .ensures .turned (c .if1 .taken)) (a .view .now) in
-    (w, sums-alone (a .book .now) (a .sheet .now) (a .view .now) _ _ w)
+    let w = refused-view (a .book .now) (a .sheet .now) (r .result) (λ x. supplyView (sumsAndLimitsOn x) (length (a .view .now)))
+    (r .ensures .refuses (c .if1 .taken)) (a .view .now) in
+    (w, nothing-else (a .book .now) (a .sheet .now) (a .view .now) _ _ w)
 
 supply-of-requires : tie.Need-supply-of-requires
 supply-of-requires c κs =
-    let t = c .before .before .before .before .before .before .read .ensures .taken (c .before .before .before .if1 .left) in
+    let t = c .before .before .before .before .before .before .read .ensures .accepts (c .before .before .before .if1 .left) in
     (t .held, t .picked)
 
 same-length : tie.Need-same-length
@@ -34,10 +34,10 @@ returns-2 c =
     let a = c .before .before .before .before .before .before .before .before .before .before .before .before .before .args in
     let r = c .before .before .before .before .before .before .before .before .before .read in
     let w = writes-same
-    (taken-then (a .book .now) (a .sheet .now) (r .result) (λ x. supplyView (sumsOn x) (length (a .view .now)))
-    (r .ensures .taken (c .before .before .before .before .before .before .if1 .left)))
+    (accepted-then (a .book .now) (a .sheet .now) (r .result) (λ x. supplyView (sumsAndLimitsOn x) (length (a .view .now)))
+    (r .ensures .accepts (c .before .before .before .before .before .before .if1 .left)))
     (c .before .before .supply-of .ensures) in
-    (w, sums-alone (a .book .now) (a .sheet .now) (a .view .now) _ _ w)
+    (w, nothing-else (a .book .now) (a .sheet .now) (a .view .now) _ _ w)
 
 pub supply-view-spec : {M : Type 1} → statement M
 supply-view-spec = tie.close (tie.spec read-requires returns supply-of-requires same-length returns-2)

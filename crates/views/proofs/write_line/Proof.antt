@@ -2,7 +2,7 @@
 use lib.ListN.{length-set}
 use native.Mathlib.Omega.{arith}
 use borrow.Author.Needs.{needs}
-use Rattle.views.proofs.EntryLaws.{line-written}
+use Rattle.views.proofs.MillLaws.{line-written}
 use Rattle.views.proofs.write_line.Statement.{statement}
 use Rattle.views.proofs.write_line.Tie as tie
 
@@ -12,8 +12,8 @@ write-requires c κs = search needs
 write-requires-2 : tie.Need-write-requires-2
 write-requires-2 c κs = search needs
 
-write-entries-requires : tie.Need-write-entries-requires
-write-entries-requires c κs = search needs
+write-loads-requires : tie.Need-write-loads-requires
+write-loads-requires c κs = search needs
 
 slice-write-view : tie.Need-slice-write-view
 slice-write-view c = search needs
@@ -25,7 +25,7 @@ returns : tie.Need-returns
 returns c =
     let s = c .before .before .before .before .before .before .before .before .before .before .before .before .before in
     let a = s .args in
-    let w = c .before .before .write-entries in
+    let w = c .before .before .write-loads in
     line-written (a .view .now) _ _ _ (a .picks) (a .worth) (a .count) (w .result)
     (c .before .before .before .before .before .before .before .before .before .before .write .ensures)
     (c .before .before .before .before .before .before .write2 .ensures)
@@ -37,7 +37,7 @@ write-line-spec =
     (tie.spec
     write-requires
     write-requires-2
-    write-entries-requires
+    write-loads-requires
     slice-write-view
     same-length
     returns)

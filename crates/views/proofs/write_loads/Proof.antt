@@ -1,19 +1,19 @@
--- `views::write_entries` meets its contract. The invariant: the loads passed are written. Assumes nothing.
+-- `views::write_loads` meets its contract. The invariant: the loads passed are written. Assumes nothing.
 use Prim.Native.Nat.{suc, _+_, _-_, _≤_}
 use mathlib.Core.Path.{_≡_, refl, sym, ap, _∙_}
 use lib.ListN.{length, getD}
 use Rattle.hex.specs.Written.{written}
 use Rattle.hex.proofs.WrittenLaws.{written-none, write-on}
-use Rattle.views.specs.Entries.{entry, entriesIn}
-use Rattle.views.proofs.EntryLaws.{entries-none, entries-more, length-more, entries-within}
+use Rattle.views.specs.MillLine.{loadBytes, loadsBytes}
+use Rattle.views.proofs.MillLaws.{loads-none, loads-more, length-more, loads-within}
 use borrow.Author.Needs.{needs}
 use native.Mathlib.Omega.{arith}
-use Rattle.views.proofs.write_entries.Statement.{statement}
-use Rattle.views.proofs.write_entries.Tie as tie
+use Rattle.views.proofs.write_loads.Statement.{statement}
+use Rattle.views.proofs.write_loads.Tie as tie
 
 abbrev Inv-loop : tie.InvT-loop
 Inv-loop view₀ at count picks next₀ k₀ view next k =
-    (k ≤ count) × (length view ≡ length view₀) × (next ≡ at + length (entriesIn picks k)) × (view ≡ written view₀ at (entriesIn picks k))
+    (k ≤ count) × (length view ≡ length view₀) × (next ≡ at + length (loadsBytes picks k)) × (view ≡ written view₀ at (loadsBytes picks k))
 
 abbrev μ-loop : tie.MeasureT-loop
 μ-loop view₀ at count picks next₀ k₀ view next k = count - k
@@ -21,20 +21,20 @@ abbrev μ-loop : tie.MeasureT-loop
 loop-holds : tie.Need-loop-holds Inv-loop μ-loop
 loop-holds c =
     let a = c .before .args in
-    let none = entries-none (a .t3) in
+    let none = loads-none (a .t3) in
     (search needs, refl, omega (arith, ap length none), sym (ap (written (a .view .now) (a .at)) none ∙ written-none (a .view .now) (a .at)))
 
-mul-write-entry : tie.Need-mul-write-entry Inv-loop μ-loop
-mul-write-entry c = search needs
+mul-write-load : tie.Need-mul-write-load Inv-loop μ-loop
+mul-write-load c = search needs
 
-array-read-write-entry : tie.Need-array-read-write-entry Inv-loop μ-loop
-array-read-write-entry c = search needs
+array-read-write-load : tie.Need-array-read-write-load Inv-loop μ-loop
+array-read-write-load c = search needs
 
-write-entry-requires : tie.Need-write-entry-requires Inv-loop μ-loop
-write-entry-requires c κs =
+write-load-requires : tie.Need-write-load-requires Inv-loop μ-loop
+write-load-requires c κs =
     let s = c .before .before .before .before in
     let l = c .before .before .loop in
-    (omega arith, omega (arith, s .pre .1, length-more (s .args .t3) (l .k), entries-within (s .args .t3) (l .k + 1) (s .args .count) (omega arith)))
+    (omega arith, omega (arith, s .pre .1, length-more (s .args .t3) (l .k), loads-within (s .args .t3) (l .k + 1) (s .args .count) (omega arith)))
 
 add-k : tie.Need-add-k Inv-loop μ-loop
 add-k c = search needs
@@ -47,16 +47,16 @@ loop-again c =
     let s = c .before .before .before .before .before .before .before in
     let a = s .args in
     let l = c .before .before .before .before .before .loop in
-    let w = c .before .before .write-entry in
+    let w = c .before .before .write-load in
     let more = length-more (a .t3) (l .k) in
-    let fits = entries-within (a .t3) (l .k + 1) (a .count) (omega arith) in (
+    let fits = loads-within (a .t3) (l .k + 1) (a .count) (omega arith) in (
       omega arith,
       omega arith,
       w .ensures .1 ∙ (omega (arith, l .inv .2)),
       w .ensures .0
-          ∙ write-on (a .view .now) (l .view) (a .at) (l .next) (entriesIn (a .t3) (l .k)) (entry (suc (l .k)) (getD (a .t3) (l .k) 0)) (l .inv .3) (l .inv .2)
+          ∙ write-on (a .view .now) (l .view) (a .at) (l .next) (loadsBytes (a .t3) (l .k)) (loadBytes (suc (l .k)) (getD (a .t3) (l .k) 0)) (l .inv .3) (l .inv .2)
           (omega (arith, s .pre .1, l .inv .2))
-          ∙ ap (written (a .view .now) (a .at)) (sym (entries-more (a .t3) (l .k))),
+          ∙ ap (written (a .view .now) (a .at)) (sym (loads-more (a .t3) (l .k))),
     )
 
 same-length : tie.Need-same-length Inv-loop μ-loop
@@ -67,18 +67,18 @@ returns c =
     let a = c .before .before .before .args in
     let l = c .before .loop in
     let e : l .k ≡ a .count = omega arith in
-    (l .inv .3 ∙ ap (λ n. written (a .view .now) (a .at) (entriesIn (a .t3) n)) e, l .inv .2 ∙ ap (λ n. a .at + length (entriesIn (a .t3) n)) e)
+    (l .inv .3 ∙ ap (λ n. written (a .view .now) (a .at) (loadsBytes (a .t3) n)) e, l .inv .2 ∙ ap (λ n. a .at + length (loadsBytes (a .t3) n)) e)
 
-pub write-entries-spec : {M : Type 1} → statement M
-write-entries-spec =
+pub write-loads-spec : {M : Type 1} → statement M
+write-loads-spec =
     tie.close
     (tie.spec
     Inv-loop
     μ-loop
     loop-holds
-    mul-write-entry
-    array-read-write-entry
-    write-entry-requires
+    mul-write-load
+    array-read-write-load
+    write-load-requires
     add-k
     loop-less
     loop-again

@@ -7,15 +7,16 @@ use lib.ListN.{getD}
 use Rattle.model.specs.Lists.{upto, concat}
 use Rattle.model.specs.Frames.{digits}
 use Rattle.model.specs.Sheet.{lf}
+use Rattle.model.specs.Views.{numberAndLevel}
 
 -- "number and level (2 each)" of load k; nothing of a load that stands
-unfoldable pub entry : ℕ → ℕ → List ℕ
-entry k level = cond (not (eqb level 0)) (digits 2 k ++ digits 2 level) []
+unfoldable pub loadBytes : ℕ → ℕ → List ℕ
+loadBytes k level = cond (not (eqb level 0)) (numberAndLevel k level) []
 
 -- "of every running load, lowest first": of the first n loads
-unfoldable pub entriesIn : List ℕ → ℕ → List ℕ
-entriesIn picks n = concat (map (λ k. entry (suc k) (getD picks k 0)) (upto n))
+unfoldable pub loadsBytes : List ℕ → ℕ → List ℕ
+loadsBytes picks n = concat (map (λ k. loadBytes (suc k) (getD picks k 0)) (upto n))
 
 -- "`09`, worth (8), then number and level"
-unfoldable pub lineIn : ℕ → List ℕ → ℕ → List ℕ
-lineIn worth picks n = digits 2 9 ++ digits 8 worth ++ entriesIn picks n ++ lf
+unfoldable pub millBytes : ℕ → List ℕ → ℕ → List ℕ
+millBytes worth picks n = digits 2 9 ++ digits 8 worth ++ loadsBytes picks n ++ lf

@@ -1,19 +1,19 @@
--- `views::write_entry` meets its contract: two fields of two digits, or nothing. Assumes nothing.
+-- `views::write_load` meets its contract: two fields of two digits, or nothing. Assumes nothing.
 use Prim.Native.Nat.{suc}
-use mathlib.Core.Path.{_≡_, sym, ap, _∙_}
+use mathlib.Core.Path.{sym, ap, _∙_}
 use lib.ListN.{length}
 use Rattle.hex.specs.Written.{written}
 use Rattle.hex.proofs.WrittenLaws.{written-none}
-use Rattle.views.proofs.EntryLaws.{entry-stands, length-runs, entry-written}
+use Rattle.views.proofs.MillLaws.{load-stands, length-runs, load-written}
 use borrow.Author.Needs.{needs}
 use native.Mathlib.Omega.{arith}
-use Rattle.views.proofs.write_entry.Statement.{statement}
-use Rattle.views.proofs.write_entry.Tie as tie
+use Rattle.views.proofs.write_load.Statement.{statement}
+use Rattle.views.proofs.write_load.Tie as tie
 
 returns : tie.Need-returns
 returns c =
     let a = c .before .before .args in
-    let none = entry-stands (suc (a .k)) (a .level) (c .if1 .taken) in (
+    let none = load-stands (suc (a .k)) (a .level) (c .if1 .taken) in (
       sym (ap (written (a .view .now) (a .at)) none ∙ written-none (a .view .now) (a .at)),
       omega (arith, ap length none),
     )
@@ -46,13 +46,13 @@ returns-2 c =
     let a = s .args in
     let runs = c .before .before .before .before .before .before .before .before .if1 .left in
     let long = length-runs (suc (a .k)) (a .level) runs in (
-      entry-written (a .view .now) _ _ (a .at) (suc (a .k)) (a .level) _ _ runs (omega arith) (omega arith) (omega (arith, s .pre .1, long))
+      load-written (a .view .now) _ _ (a .at) (suc (a .k)) (a .level) _ _ runs (omega arith) (omega arith) (omega (arith, s .pre .1, long))
           (c .before .before .before .before .before .before .write .ensures) (c .before .before .write2 .ensures),
       omega (arith, long),
     )
 
-pub write-entry-spec : {M : Type 1} → statement M
-write-entry-spec =
+pub write-load-spec : {M : Type 1} → statement M
+write-load-spec =
     tie.close
     (tie.spec
     returns
