@@ -17,10 +17,10 @@ use Rattle.model.specs.Valid.{SettingSmall}
 use Rattle.model.specs.Values.{Held, problemOf, raisedBy}
 use Rattle.model.proofs.AdmissionLaws.{square-abs}
 use Rattle.model.proofs.RaisedLaws.{raised-abs}
+use Rattle.model.proofs.SumLaws.{sum-small}
 use Rattle.model.proofs.HeldLaws.{held-count, held-limit}
 use Rattle.sums.specs.declared.Sums.{Sums}
 use Rattle.sums.specs.Sums.{sumsValue}
-use Rattle.model.proofs.SumLaws.{sum-small}
 use Rattle.sums.proofs.SumsLaws.{sums-active, sums-reactive}
 
 -- the limits from slot s on are kept

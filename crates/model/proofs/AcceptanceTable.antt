@@ -30,8 +30,8 @@ use Rattle.model.specs.Demand.{apparentSquaredIn, closerBound}
 use Rattle.model.specs.Rounding.{floorBySum}
 use Rattle.model.specs.SheetReader.{sheetChoice}
 use Rattle.model.specs.Charge.{rounded, chargeOf, choiceCharge, sheetCharge, chargeResult, chargeAnswerOf}
-use Rattle.model.specs.Views.{accepted, shown, runningLoads, numberAndLevel, millLine, millResult, supplyView, supplyResult}
 use Rattle.model.specs.Order.{Running, starting, runningMask, andNot, startCount, wrongNames, someBlocked, left, ready, startNext, startedAfter, startOrder, OrderData, loadsOrder, sheetsOrder, orderResult}
+use Rattle.model.specs.Views.{accepted, shown, runningLoads, numberAndLevel, millLine, millResult, supplyView, supplyResult}
 use Rattle.model.proofs.ListLaws.{all-join}
 
 abbrev pub bytesOf : String → List ℕ

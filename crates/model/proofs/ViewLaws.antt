@@ -1,4 +1,5 @@
--- M-103: the views' lengths and refusal 11, and what two of the supply company's views tell.
+-- M-103: a view and its room, the length of the mill's view, and of the supply company's that its lines are the sheet's, and what one call and two calls
+-- tell.
 -- Assumes nothing.
 use Prim.Native.Nat.{ℕ, _+_, _*_, _^_, _<_, _≤_}
 use mathlib.Core.Path.{_≡_, refl, sym, ap, ap₂, _∙_, subst}

@@ -104,23 +104,23 @@ module _ (b : Problem) (valid : ValidBook b) (picks : List ℕ) (picked : Picked
   abbrev n : ℕ
   n = length (b .loads)
 
-  -- a load that runs is named, and one that stands is not
-  abbrev named : ℕ → List ℕ
-  named k = cond (runningOn c k) (numberAndLevel k (levelOn c k)) []
+  -- a load that runs is listed, and one that stands is not
+  abbrev listed : ℕ → List ℕ
+  listed k = cond (runningOn c k) (numberAndLevel k (levelOn c k)) []
 
-  named-is : (k : ℕ) → k < n → named (suc k) ≡ loadBytes (suc k) (getD picks k 0)
+  listed-is : (k : ℕ) → k < n → listed (suc k) ≡ loadBytes (suc k) (getD picks k 0)
   unfolding loadBytes
-  named-is k l = ap (λ level. cond (not (eqb level 0)) (numberAndLevel (suc k) level) []) (number-at b picks valid picked k l)
+  listed-is k l = ap (λ level. cond (not (eqb level 0)) (numberAndLevel (suc k) level) []) (number-at b picks valid picked k l)
 
   loads-are : loadsBytes picks n ≡ concat (map (λ k. numberAndLevel k (levelOn c k)) (runningLoads c))
   unfolding loadsBytes runningLoads
   loads-are =
       sym
       (concat-keep (runningOn c) (λ k. numberAndLevel k (levelOn c k)) (uptoFrom 1 (length c))
-      ∙ ap (λ m. concat (map named (uptoFrom 1 m))) (choice-length b picks valid picked)
-      ∙ ap (λ ks. concat (map named ks)) (from-suc 0 n)
-      ∙ ap concat (map-map named suc (upto n))
-      ∙ ap concat (map-same (λ k. named (suc k)) (λ k. loadBytes (suc k) (getD picks k 0)) 0 n (λ k a l. named-is k (omega arith))))
+      ∙ ap (λ m. concat (map listed (uptoFrom 1 m))) (choice-length b picks valid picked)
+      ∙ ap (λ ks. concat (map listed ks)) (from-suc 0 n)
+      ∙ ap concat (map-map listed suc (upto n))
+      ∙ ap concat (map-same (λ k. listed (suc k)) (λ k. loadBytes (suc k) (getD picks k 0)) 0 n (λ k a l. listed-is k (omega arith))))
 
   pub line-is : (worth count : ℕ) → worth ≡ worthOf c → count ≡ n → millBytes worth picks count ≡ millLine c
   unfolding millBytes millLine
