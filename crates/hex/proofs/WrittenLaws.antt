@@ -52,7 +52,7 @@ pub write-byte : (l : List ℕ) (at v : ℕ) → at < length l → set l at v �
 write-byte l at v h = ap (λ m. set m at v) (sym (written-none l (at + 1))) ∙ written-front l at v [] h
 
 -- a write into the part from a place on
-pub written-part : (l : List ℕ) (a at : ℕ) (xs : List ℕ) → a ≤ length l → take a l ++ written (drop a l) at xs ≡ written l (a + at) xs
+written-part : (l : List ℕ) (a at : ℕ) (xs : List ℕ) → a ≤ length l → take a l ++ written (drop a l) at xs ≡ written l (a + at) xs
 unfolding written
 written-part l a at xs h =
     let n : a + at + length xs ≡ a + (at + length xs) = add-assoc a at (length xs) in

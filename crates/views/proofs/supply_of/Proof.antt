@@ -37,7 +37,7 @@ write-slots-requires : tie.Need-write-slots-requires
 write-slots-requires c κs =
     let s = c .before .before .before .before .before .before .before .before in
     let a = s .args in (
-      (held-four (a .book) (s .pre .0), held-few (a .book) (s .pre .0), omega (arith, c .before .before .before .before .before .if1 .left)),
+      (omega (arith, held-four (a .book) (s .pre .0)), held-few (a .book) (s .pre .0), omega (arith, c .before .before .before .before .before .if1 .left)),
       reactive-room (a .book) (s .pre .0) (a .picks) (s .pre .1) _ (c .before .before .before .before .sums-of .ensures),
     )
 
