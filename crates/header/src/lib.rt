@@ -18,7 +18,7 @@ pub fn header_finding(line: &[u8]) -> Finding
     if !hex::all_digits(line) {
         return Finding::Refused(Refusal::NotHex);
     }
-    if hex::wrong_kind(line, 1) {
+    if hex::wrong_kind(line, &[1]) {
         return Finding::Refused(Refusal::WrongKind);
     }
     let slots = hex::number(line, 2, 2);

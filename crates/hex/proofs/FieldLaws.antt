@@ -1,4 +1,4 @@
--- Laws of reading, for the loops of `all_digits`, `number` and `line_length`.
+-- Laws of reading, for the loops of `all_digits`, `number`, `line_length` and `wrong_kind`.
 -- Assumes nothing.
 use Prim.Native.Nat.{ℕ, suc, _+_, _*_, _<_}
 use mathlib.Core.List.{List}
@@ -7,9 +7,10 @@ use mathlib.Core.Path.{_≡_}
 use native.Mathlib.Numerals.{add-one}
 use native.Mathlib.Omega.{arith}
 use borrow.Author.Tests.{eq-eqb, ne-eqb}
+use lib.Dec.{eqb}
 use lib.ListN.{length, getD, drop, length-drop}
 use lib.Seq.{drop-cons, drop-length, take-suc, getD-drop}
-use Rattle.model.specs.Lists.{all}
+use Rattle.model.specs.Lists.{all, any}
 use Rattle.model.specs.Frames.{isDigit, digitValue, field, lineLength}
 use Rattle.model.proofs.FrameLaws.{value-last}
 
@@ -22,6 +23,17 @@ digits-stop s i t h d e = rw (drop-cons s i 0, d) at e
 
 pub digits-end : (s : List ℕ) (i : ℕ) (t : Bool) → i ≡ length s → all isDigit (drop i s) ≡ t → true ≡ t
 digits-end s i t h e = rw (h, drop-length) at e
+
+-- one of the kinds: past another one the rest decides; at the kind itself the answer is yes; at the end no
+module _ (kind : ℕ) (kinds : List ℕ) (i : ℕ) (t : Bool) (e : any (eqb kind) (drop i kinds) ≡ t) where
+  pub kinds-go : i < length kinds → (kind ≡ getD kinds i 0 → ⊥) → any (eqb kind) (drop (i + 1) kinds) ≡ t
+  kinds-go h d = rw add-one (rw (drop-cons kinds i 0, ne-eqb kind (getD kinds i 0) d) at e)
+
+  pub kinds-stop : i < length kinds → kind ≡ getD kinds i 0 → true ≡ t
+  kinds-stop h d = rw (drop-cons kinds i 0, eq-eqb kind (getD kinds i 0) d) at e
+
+  pub kinds-end : i ≡ length kinds → false ≡ t
+  kinds-end h = rw (h, drop-length) at e
 
 -- a number: one digit more
 pub field-more : (s : List ℕ) (at i : ℕ) → at + i < length s → field s at (i + 1) ≡ field s at i * 16 + digitValue (getD s (at + i) 0)

@@ -8,7 +8,7 @@ use Prim.Native.Nat.{ℕ, _<_, _≤_}
 use lib.Dec.{leb, ltb, eqb}
 use lib.ListN.{length}
 use borrow.Author.Tests.{lt-ltb, le-ltb, le-leb, lt-leb, ltb-false, not-false}
-use Rattle.model.specs.Lists.{within}
+use Rattle.model.specs.Lists.{within, any}
 use Rattle.model.specs.Frames.{field}
 use Rattle.model.specs.Book.{kindRule}
 use Rattle.model.proofs.ListLaws.{either-false, within-is}
@@ -28,6 +28,11 @@ ranged x y low high r e f = ap (λ z. not (within low high z)) (sym e) ∙ sym f
 pub in-range : (lo hi x : ℕ) → not (within lo hi x) ≡ false → (lo ≤ x) × (x ≤ hi)
 in-range lo hi x e = within-is lo hi x (not-false (within lo hi x) e)
 
+-- rule 3 of a line with four digits or more: whether its kind is one of those that are due
+pub kind-told : (kinds line : List ℕ) (kind : ℕ) (t : Bool) → 4 ≤ length line → kind ≡ field line 0 2 → t ≡ any (eqb kind) kinds
+    → not t ≡ kindRule kinds line .applies
+kind-told kinds line kind t h e q = rw (le-ltb (length line) 4 h) (ap not q ∙ ap (λ k. not (any (eqb k) kinds)) e)
+
 -- past rule 3 there is a kind, and what follows it
-pub kind-long : (kind : ℕ) (line : List ℕ) → kindRule kind line .applies ≡ false → 4 ≤ length line
-kind-long kind line e = ltb-false (length line) 4 (either-false (ltb (length line) 4) (not (eqb (field line 0 2) kind)) e .0)
+pub kind-long : (kinds line : List ℕ) → kindRule kinds line .applies ≡ false → 4 ≤ length line
+kind-long kinds line e = ltb-false (length line) 4 (either-false (ltb (length line) 4) (not (any (eqb (field line 0 2)) kinds)) e .0)

@@ -117,12 +117,20 @@ pub fn outside(x: u64, low: u64, high: u64) -> bool
     high < x
 }
 
-// Refusal 3 for a line on which this kind is due.
-pub fn wrong_kind(line: &[u8], kind: u64) -> bool
-    ensures { λ r. ⌜ r ≡ kindRule kind (now (line .entry)) .applies ⌝ }
+// Refusal 3 for a line on which one of these kinds is due.
+pub fn wrong_kind(line: &[u8], kinds: &[u64]) -> bool
+    ensures { λ r. ⌜ r ≡ kindRule (now (kinds .entry)) (now (line .entry)) .applies ⌝ }
 {
     if line.len() < 4 {
         return true;
     }
-    number(line, 0, 2) != kind
+    let kind = number(line, 0, 2);
+    let mut i = 0;
+    while i < kinds.len() {
+        if kind == kinds[i] {
+            return false;
+        }
+        i += 1;
+    }
+    true
 }

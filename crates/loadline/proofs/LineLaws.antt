@@ -1,10 +1,10 @@
 -- Load lines: where things stand on them, their settings by number, and Q plus 32,768.
 -- Assumes nothing.
-use mathlib.Core.Path.{_≡_, refl, sym, ap, _∙_}
-use mathlib.Core.Bool.{cond}
+use mathlib.Core.Path.{_≡_, refl, sym, ap, ap₂, _∙_}
+use mathlib.Core.Bool.{Bool, cond, _||_}
 use mathlib.Core.Logic.{_⊎_, inl, inr}
 use mathlib.Core.List.{List, [], _∷_, map}
-use Prim.Native.Nat.{ℕ, zero, suc, _+_, _-_, _*_, _/_, _%_, _<_, _≤_}
+use Prim.Native.Nat.{ℕ, zero, suc, _+_, _-_, _*_, _%_, _<_, _≤_}
 use native.Mathlib.Nat.{mul-le-mul-right, suc-mul, le-trans}
 use native.Mathlib.Numerals.{add-one}
 use native.Mathlib.Omega.{arith}
@@ -12,17 +12,18 @@ use lib.IntN.{ℤ, pos, negsuc, natAbs, subℕ}
 use lib.ListN.{length, getD, List·getD-eq-default}
 use borrow.Author.Tests.{lt-ltb, le-ltb, eqb-true, not-false}
 use Rattle.model.specs.declared.Finding.the-variants.{Passed}
-use Rattle.model.specs.Lists.{upto}
+use Rattle.model.specs.Lists.{upto, any, Every}
 use Rattle.model.specs.Frames.{signed}
 use Rattle.model.specs.Refusals.{first}
-use Rattle.model.specs.Book.{noPower, optionCount, optionStart, powerAt, optionAt, options, settings, loadRules}
+use Rattle.model.specs.Book.{noPower, Setting, Settings, optionCount, optionStart, powerAt, optionAt, settings, reactiveExceeds, someExceeds, loadRules}
 use Rattle.model.specs.Choice.{powerIn, noSetting}
-use Rattle.model.specs.Values.{raised, settingOf, powerOf}
+use Rattle.model.specs.Values.{raised, settingOf}
 use Rattle.model.proofs.IntegerLaws.{split, sub-neg}
 use Rattle.model.proofs.RefusalLaws.{first-passed}
-use Rattle.model.proofs.UptoLaws.{length-upto, getD-upto}
+use Rattle.model.proofs.UptoLaws.{length-upto, getD-upto, upto-is}
+use Rattle.model.proofs.ValidLaws.{sized-settings}
 use Rattle.hex.proofs.RangeLaws.{in-range}
-use Rattle.loadline.specs.LoadLine.{LoadLine, HoldsOption}
+use Rattle.loadline.specs.LoadLine.{LoadLine}
 
 -- a line that is not refused
 pub load-line : (t : ℕ) (line : List ℕ) → t ≤ 4 → first (loadRules t line) ≡ Passed → LoadLine t (optionCount line) line
@@ -53,13 +54,9 @@ pub option-small : (t j : ℕ) → t ≤ 4 → j ≤ 3 → optionStart t j ≤ 1
 unfolding optionStart
 option-small t j p q = omega (arith, option-product t j p q)
 
-pub holds-option : (t j o : ℕ) (line : List ℕ) → LoadLine t o line → j < o → HoldsOption t j line
-holds-option t j o line h p =
-    record {
-      slots = h .slots;
-      option = omega (arith, h .options);
-      reach = rw (h .long) (option-mono t (j + 1) o (omega arith));
-    }
+-- the line reaches to the end of option j + 1
+pub holds-option : (t j o : ℕ) (line : List ℕ) → LoadLine t o line → j < o → optionStart t (j + 1) ≤ length line
+holds-option t j o line h p = rw (h .long) (option-mono t (j + 1) o (omega arith))
 
 pub line-holds : (t o : ℕ) (line : List ℕ) → LoadLine t o line → 4 ≤ length line
 unfolding optionStart
@@ -89,31 +86,49 @@ no-power [] slot = refl
 no-power (x ∷ xs) zero = refl
 no-power (x ∷ xs) (suc slot) = no-power xs slot
 
--- the power at a place of the arrays: none for standing, past the last option and past the last slot
-module _ (t k : ℕ) (line : List ℕ) where
-  pub power-standing : k / 4 < 1 → powerOf (settings t line) k ≡ noPower
-  unfolding powerOf
+-- the power of setting c in slot s: none for standing, past the last option and past the last slot
+module _ (t c s : ℕ) (line : List ℕ) where
+  pub power-standing : c < 1 → powerIn s (settingOf (settings t line) c) ≡ noPower
   power-standing h =
-      let z : k / 4 ≡ 0 = omega arith in
-      ap (λ c. powerIn (k % 4) (settingOf (settings t line) c)) z ∙ no-power (upto t) (k % 4)
+      let z : c ≡ 0 = omega arith in
+      ap (λ j. powerIn s (settingOf (settings t line) j)) z ∙ no-power (upto t) s
 
-  pub power-past : optionCount line < k / 4 → powerOf (settings t line) k ≡ noPower
-  unfolding powerOf
-  power-past h = ap (powerIn (k % 4)) (setting-past t (k / 4) line h)
+  pub power-past : optionCount line < c → powerIn s (settingOf (settings t line) c) ≡ noPower
+  power-past h = ap (powerIn s) (setting-past t c line h)
 
-  module _ (p : 1 ≤ k / 4) (q : k / 4 ≤ optionCount line) where
-    pub power-no-slot : t ≤ k % 4 → powerOf (settings t line) k ≡ noPower
-    unfolding powerOf
+  module _ (p : 1 ≤ c) (q : c ≤ optionCount line) where
+    pub power-no-slot : t ≤ s → powerIn s (settingOf (settings t line) c) ≡ noPower
     power-no-slot h =
-        ap (powerIn (k % 4)) (setting-option t (k / 4) line p q)
-        ∙ List·getD-eq-default (map (λ s. powerAt line (optionStart t (k / 4 - 1) + 4 + 8 * s)) (upto t)) noPower
-        (omega (arith, length-upto (λ s. powerAt line (optionStart t (k / 4 - 1) + 4 + 8 * s)) t))
+        ap (powerIn s) (setting-option t c line p q)
+        ∙ List·getD-eq-default (map (λ i. powerAt line (optionStart t (c - 1) + 4 + 8 * i)) (upto t)) noPower
+        (omega (arith, length-upto (λ i. powerAt line (optionStart t (c - 1) + 4 + 8 * i)) t))
 
-    pub power-option : k % 4 < t → powerOf (settings t line) k ≡ powerAt line (optionStart t (k / 4 - 1) + 4 + 8 * (k % 4))
-    unfolding powerOf
+    pub power-option : s < t → powerIn s (settingOf (settings t line) c) ≡ powerAt line (optionStart t (c - 1) + 4 + 8 * s)
     power-option h =
-        ap (powerIn (k % 4)) (setting-option t (k / 4) line p q)
-        ∙ getD-upto (λ s. powerAt line (optionStart t (k / 4 - 1) + 4 + 8 * s)) t (k % 4) noPower h
+        ap (powerIn s) (setting-option t c line p q)
+        ∙ getD-upto (λ i. powerAt line (optionStart t (c - 1) + 4 + 8 * i)) t s noPower h
+
+-- ---- |Q| > P, by the numbers of settings and slots
+
+-- in some of t slots
+abbrev pub exceedsIn : ℕ → Setting → Bool
+exceedsIn t v = any reactiveExceeds (map (λ s. powerIn s v) (upto t))
+
+exceeds-in : (t : ℕ) (v : Setting) → length (v .powers) ≡ t → any reactiveExceeds (v .powers) ≡ exceedsIn t v
+exceeds-in t v e =
+    ap (any reactiveExceeds) (sym (upto-is (λ s. powerIn s v) (v .powers) noPower (λ k l. refl)))
+    ∙ ap (λ n. any reactiveExceeds (map (λ s. powerIn s v) (upto n))) e
+
+exceeds-each : (t : ℕ) (vs : Settings) → Every (λ v. length (v .powers) ≡ t) vs → any (λ v. any reactiveExceeds (v .powers)) vs ≡ any (exceedsIn t) vs
+exceeds-each t [] h = refl
+exceeds-each t (v ∷ vs) h = ap₂ _||_ (exceeds-in t v (h .0)) (exceeds-each t vs (h .1))
+
+pub exceeds-is : (t : ℕ) (line : List ℕ) → someExceeds (settings t line) ≡ any (exceedsIn t) (map (settingOf (settings t line)) (upto (optionCount line + 1)))
+unfolding someExceeds
+exceeds-is t line =
+    exceeds-each t (settings t line) (sized-settings t line)
+    ∙ ap (any (exceedsIn t)) (sym (upto-is (settingOf (settings t line)) (settings t line) noSetting (λ k l. refl)))
+    ∙ ap (λ n. any (exceedsIn t) (map (settingOf (settings t line)) (upto n))) (length-settings t line)
 
 -- ---- Q plus 32,768
 
@@ -129,14 +144,7 @@ raised-signed w h = go (split w 32768)
 abbrev pub offset : ℤ → ℕ
 offset z = (raised z - 32768) + (32768 - raised z)
 
-pub abs-signed : (w : ℕ) → w < 65536 → offset (signed 16 w) ≡ natAbs (signed 16 w)
-unfolding raised signed
-abs-signed w h = go (split w 32768)
-  where
-    of : (z : ℤ) → signed 16 w ≡ z → offset z ≡ natAbs z → offset (signed 16 w) ≡ natAbs (signed 16 w)
-    of z e f = ap offset e ∙ f ∙ sym (ap natAbs e)
-
-    go : (w < 32768) ⊎ (32768 ≤ w) → offset (signed 16 w) ≡ natAbs (signed 16 w)
-    go (inl l) = of (pos w) (ap (λ t. cond t (pos w) (subℕ w 65536)) (lt-ltb w 32768 l)) (omega arith)
-    go (inr l) =
-        of (negsuc (65536 - suc w)) (ap (λ t. cond t (pos w) (subℕ w 65536)) (le-ltb w 32768 l) ∙ sub-neg w 65536 h) (omega arith)
+pub abs-raised : (z : ℤ) → natAbs z ≤ 32768 → offset z ≡ natAbs z
+unfolding raised
+abs-raised (pos n) h = omega arith
+abs-raised (negsuc n) h = omega arith

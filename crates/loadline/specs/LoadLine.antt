@@ -1,5 +1,5 @@
 -- What the functions of a load line ask of it, and the value that holds a power.
-use Prim.Native.Nat.{ℕ, _+_, _≤_, _<_}
+use Prim.Native.Nat.{ℕ, _≤_}
 use mathlib.Core.Path.{_≡_}
 use mathlib.Core.List.{List}
 use lib.ListN.{length}
@@ -18,9 +18,3 @@ pub record LoadLine (t o : ℕ) (line : List ℕ) : Type 0 where
   pub options : o ≤ mostOptions
   pub stated : o ≡ optionCount line
   pub long : length line ≡ optionStart t o
-
--- the line reaches to the end of option j + 1
-pub record HoldsOption (t j : ℕ) (line : List ℕ) : Type 0 where
-  pub slots : t ≤ mostSlots
-  pub option : j < mostOptions
-  pub reach : optionStart t (j + 1) ≤ length line

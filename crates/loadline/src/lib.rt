@@ -5,14 +5,15 @@ use model::Load;
 use model::Refusal;
 ghost use mathlib.Core.Path.{_≡_};
 ghost use mathlib.Core.List.{map};
-ghost use Prim.Native.Nat.{_+_, _*_, _≤_, _<_};
+ghost use Prim.Native.Nat.{_+_, _≤_};
 ghost use lib.ListN.{length};
 ghost use Rattle.model.specs.Lists.{upto};
 ghost use Rattle.model.specs.Refusals.{first};
-ghost use Rattle.model.specs.Book.{optionStart, powerAt, options, settings, reactiveExceeds, someExceeds, loadRules};
-ghost use Rattle.model.specs.Values.{settingOf, powerOf, loadValue};
+ghost use Rattle.model.specs.Book.{optionStart, powerAt, settings, reactiveExceeds, someExceeds, loadRules};
+ghost use Rattle.model.specs.Choice.{powerIn};
+ghost use Rattle.model.specs.Values.{settingOf, loadValue};
 ghost use Rattle.model.specs.Bounds.{mostSlots, mostOptions, mostSettings};
-ghost use Rattle.loadline.specs.LoadLine.{LoadLine, HoldsOption, powerValue};
+ghost use Rattle.loadline.specs.LoadLine.{LoadLine, powerValue};
 
 // An active power, and a reactive power plus 32,768.
 pub struct PowerValue {
@@ -39,28 +40,49 @@ fn power_at(line: &[u8], at: usize) -> PowerValue
     }
 }
 
-// |Q| > P in option j + 1 and slot s.
-fn exceeds_at(line: &[u8], slots: usize, j: usize, s: usize) -> bool
-    requires { ⌜ HoldsOption slots j (now line) ⌝ }
-    requires { ⌜ s < slots ⌝ }
-    ensures { λ r. ⌜ r ≡ reactiveExceeds (powerAt (now (line .entry)) (optionStart slots j + 4 + 8 * s)) ⌝ }
+// The power of setting c in slot s; none for standing, and past the last option and slot.
+fn power_of(line: &[u8], slots: usize, count: usize, c: usize, s: usize) -> PowerValue
+    requires { ⌜ LoadLine slots count (now line) ⌝ }
+    ensures { λ r. ⌜ r ≡ powerValue (powerIn s (settingOf (settings slots (now (line .entry))) c)) ⌝ }
 {
-    let at = option_start(slots, j);
-    let power = power_at(line, at + 4 + 8 * s);
+    let none = PowerValue {
+        active: 0,
+        reactive: 32768,
+    };
+    if c < 1 {
+        return none;
+    }
+    if count < c {
+        return none;
+    }
+    if slots <= s {
+        return none;
+    }
+    let at = option_start(slots, c - 1);
+    power_at(line, at + 4 + 8 * s)
+}
+
+// |Q| > P in setting c and slot s.
+fn exceeds_at(line: &[u8], slots: usize, count: usize, c: usize, s: usize) -> bool
+    requires { ⌜ LoadLine slots count (now line) ⌝ }
+    ensures { λ r. ⌜ r ≡ reactiveExceeds (powerIn s (settingOf (settings slots (now (line .entry))) c)) ⌝ }
+{
+    let power = power_of(line, slots, count, c, s);
     power.active < model::distance(power.reactive, 32768)
 }
 
-// |Q| > P in some option and slot.
+// |Q| > P in some setting and slot.
 fn some_exceeds(line: &[u8], slots: usize, count: usize) -> bool
     requires { ⌜ LoadLine slots count (now line) ⌝ }
-    ensures { λ r. ⌜ r ≡ someExceeds (options slots (now (line .entry))) ⌝ }
+    ensures { λ r. ⌜ r ≡ someExceeds (settings slots (now (line .entry))) ⌝ }
 {
     let mut found = false;
-    'options: for j in 0..count {
+    let settings = count + 1;
+    'settings: for c in 0..settings {
         for s in 0..slots {
-            if exceeds_at(line, slots, j, s) {
+            if exceeds_at(line, slots, count, c, s) {
                 found = true;
-                break 'options;
+                break 'settings;
             }
         }
     }
@@ -75,7 +97,7 @@ pub fn load_finding(line: &[u8], slots: usize) -> Finding
     if !hex::all_digits(line) {
         return Finding::Refused(Refusal::NotHex);
     }
-    if hex::wrong_kind(line, 2) {
+    if hex::wrong_kind(line, &[2]) {
         return Finding::Refused(Refusal::WrongKind);
     }
     let count = hex::number(line, 2, 2);
@@ -107,30 +129,6 @@ fn worth_of(line: &[u8], slots: usize, count: usize, c: usize) -> u64
     hex::number(line, at, 4)
 }
 
-// The power at place k of a load's arrays: of setting k / 4 in slot k % 4; none for standing and past the last option and slot.
-fn power_of(line: &[u8], slots: usize, count: usize, k: usize) -> PowerValue
-    requires { ⌜ LoadLine slots count (now line) ⌝ }
-    ensures { λ r. ⌜ r ≡ powerValue (powerOf (settings slots (now (line .entry))) k) ⌝ }
-{
-    let none = PowerValue {
-        active: 0,
-        reactive: 32768,
-    };
-    let c = k / Book::SLOTS;
-    let s = k % Book::SLOTS;
-    if c < 1 {
-        return none;
-    }
-    if count < c {
-        return none;
-    }
-    if slots <= s {
-        return none;
-    }
-    let at = option_start(slots, c - 1);
-    power_at(line, at + 4 + 8 * s)
-}
-
 fn worths_of(line: &[u8], slots: usize, count: usize) -> [u64; Load::SETTINGS]
     requires { ⌜ LoadLine slots count (now line) ⌝ }
     ensures { λ r. ⌜ r ≡ map (λ c. settingOf (settings slots (now (line .entry))) c .worth) (upto mostSettings) ⌝ }
@@ -151,12 +149,13 @@ pub fn load_of(line: &[u8], slots: usize, count: usize) -> Load
     let mut actives = [0u64; Load::POWERS];
     let mut reactives = [0u64; Load::POWERS];
     for k in 0..Load::POWERS {
-        let power = power_of(line, slots, count, k);
+        let power = power_of(line, slots, count, k / Book::SLOTS, k % Book::SLOTS);
         actives[k] = power.active;
         reactives[k] = power.reactive;
     }
+    let settings = count + 1;
     Load {
-        settings: count + 1,
+        settings,
         worths,
         actives,
         reactives,

@@ -16,8 +16,8 @@ use Rattle.model.specs.declared.Refusal.the-variants.{BudgetExceeded}
 use Rattle.model.specs.declared.Finding.the-variants.{Passed}
 use Rattle.model.specs.Lists.{Mem, Every}
 use Rattle.model.specs.Refusals.{Result, refused, done, Rule, _⇒_, first, checked, andThen}
-use Rattle.model.specs.Book.{Setting, Settings, Problem, readBook, standing}
-use Rattle.model.specs.Choice.{Choice, IsChoice, worthOf, sumIn, square, apparentSquared}
+use Rattle.model.specs.Book.{Setting, Settings, Problem, readBook}
+use Rattle.model.specs.Choice.{Choice, IsChoice, noSetting, worthOf, sumIn, square, apparentSquared}
 use Rattle.model.specs.Grid.{Slot, stepFor, slotsFrom, slotsOf, keepsLimits, gridIn, spreadOf, times, Admissible, admits, admitted, plan}
 use Rattle.model.specs.Trials.{cells, neededWords, trials}
 use Rattle.model.specs.Sheet.{sheetOf, sheetBytes, sheetLength}
@@ -178,7 +178,7 @@ sheet-demand3 book b c t past e p =
       on-sheet = record {
         of-book = sound .0;
         numbers = λ k l.
-            numbers-on b c t (sheetBytes b c t ++ past) past refl (numbers-small (b .loads) c (good .loads .labels) (sound .0)) (standing (T b)) k (omega arith);
+            numbers-on b c t (sheetBytes b c t ++ past) past refl (numbers-small (b .loads) c (good .loads .labels) (sound .0)) noSetting k (omega arith);
         worth = worth-on b c t (sheetBytes b c t ++ past) past refl (worth-small b c good (sound .0));
       };
       worth = λ other m h.

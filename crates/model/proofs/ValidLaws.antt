@@ -63,7 +63,7 @@ labelled-settings t line e =
       few = omega (arith, n .1);
     }
 
-sized-settings : (t : ℕ) (line : List ℕ) → Every (λ v. length (v .powers) ≡ t) (settings t line)
+pub sized-settings : (t : ℕ) (line : List ℕ) → Every (λ v. length (v .powers) ≡ t) (settings t line)
 sized-settings t line = (
   length-upto (λ s. noPower) t,
   every-image (λ v. length (v .powers) ≡ t) (optionOn t line) (upto (optionCount line))
@@ -81,7 +81,7 @@ small-option t line c at =
           (λ s. signed-small (field line (at + 4 + 8 * s + 4) 4) (field-below line (at + 4 + 8 * s + 4) 4)));
     }
 
-small-settings : (t : ℕ) (line : List ℕ) → Every SettingSmall (settings t line)
+pub small-settings : (t : ℕ) (line : List ℕ) → Every SettingSmall (settings t line)
 small-settings t line = (
   record {
     worth = omega arith;
@@ -101,13 +101,7 @@ unfolding loadRules
 good-more n t line loads rules g =
     record {
       count = ap suc (g .count);
-      keeps = (
-        (
-          (λ slot. subst (λ x. natAbs (x .q) ≤ 1 * x .p) (sym (standing-power t slot)) (omega arith)),
-          kept-settings (options t line) (rules .1 .1 .1 .1 .0),
-        ),
-        g .keeps,
-      );
+      keeps = (kept-settings (settings t line) (rules .1 .1 .1 .1 .0), g .keeps);
       idle = (standing-power t, g .idle);
       labels = (labelled-settings t line (not-false (within 1 3 (optionCount line)) (rules .1 .1 .0)), g .labels);
       powers = (sized-settings t line, g .powers);

@@ -40,6 +40,9 @@ pub record Problem : Type 0 where
 
 -- ---- the header: "kind `01`, T (2 digits), N (2), d (2), budget (8), then T limits S (4 each). It has 16 + 4T digits."
 
+abbrev pub headerKinds : List ℕ
+headerKinds = 1 ∷ []
+
 abbrev pub slotCount : List ℕ → ℕ
 slotCount line = field line 2 2
 
@@ -62,6 +65,9 @@ problem line loads =
 
 -- ---- a load line: "kind `02`, o (2 digits), then o options. An option is a worth (4), then for each slot P (4) and Q (4, two's complement
 -- of 16 bits). A line has 4 + o × (4 + 8T) digits."
+
+abbrev pub loadKinds : List ℕ
+loadKinds = 2 ∷ []
 
 abbrev pub optionCount : List ℕ → ℕ
 optionCount line = field line 2 2
@@ -100,15 +106,15 @@ lineRule bytes = not (hasLine bytes) ⇒ Unterminated
 abbrev pub hexRule : List ℕ → Rule
 hexRule line = not (all isDigit line) ⇒ NotHex
 
--- 3: "fewer than 4 digits, or kind not the one due"
-abbrev pub kindRule : ℕ → List ℕ → Rule
-kindRule kind line = ltb (length line) 4 || not (eqb (field line 0 2) kind) ⇒ WrongKind
+-- 3: "fewer than 4 digits, or kind not the one due", where these kinds are due
+abbrev pub kindRule : List ℕ → List ℕ → Rule
+kindRule kinds line = ltb (length line) 4 || not (any (eqb (field line 0 2)) kinds) ⇒ WrongKind
 
 -- 4: "T not 1 to 4"; 5: "number of digits not the stated one"; 6: "N or d outside its range": "N is the number of loads, 1 to 24. d, the fineness, is 1 to 64."
 unfoldable pub headerRules : List ℕ → List Rule
 headerRules line =
     hexRule line
-    ∷ kindRule 1 line
+    ∷ kindRule headerKinds line
     ∷ (not (within 1 mostSlots (slotCount line)) ⇒ SlotsOrOptionsOutOfRange)
     ∷ (not (eqb (length line) (16 + 4 * slotCount line)) ⇒ WrongLength)
     ∷ (not (within 1 mostLoads (loadCount line) && within 1 mostFineness (finenessIn line)) ⇒ LoadsOrFinenessOutOfRange)
@@ -118,7 +124,7 @@ headerRules line =
 abbrev pub reactiveExceeds : Power → Bool
 reactiveExceeds x = ltb (x .p) (natAbs (x .q))
 
--- "|Q| > P in some option and slot"
+-- "|Q| > P in some option and slot"; standing has Q = 0
 unfoldable pub someExceeds : Settings → Bool
 someExceeds vs = any (λ v. any reactiveExceeds (v .powers)) vs
 
@@ -126,10 +132,10 @@ someExceeds vs = any (λ v. any reactiveExceeds (v .powers)) vs
 unfoldable pub loadRules : ℕ → List ℕ → List Rule
 loadRules t line =
     hexRule line
-    ∷ kindRule 2 line
+    ∷ kindRule loadKinds line
     ∷ (not (within 1 mostOptions (optionCount line)) ⇒ SlotsOrOptionsOutOfRange)
     ∷ (not (eqb (length line) (optionStart t (optionCount line))) ⇒ WrongLength)
-    ∷ (someExceeds (options t line) ⇒ ReactiveExceedsActive)
+    ∷ (someExceeds (settings t line) ⇒ ReactiveExceedsActive)
     ∷ []
 
 -- 8: "bytes remain after the last load line"

@@ -6,8 +6,8 @@ use mathlib.Core.List.{List}
 use lib.ListN.{length, getD}
 use Rattle.model.specs.Frames.{field}
 use Rattle.model.specs.Refusals.{done}
-use Rattle.model.specs.Book.{Problem, readBook, standing}
-use Rattle.model.specs.Choice.{Choice, IsChoice, worthOf, sumIn, square, apparentSquared}
+use Rattle.model.specs.Book.{Problem, readBook}
+use Rattle.model.specs.Choice.{Choice, IsChoice, noSetting, worthOf, sumIn, square, apparentSquared}
 
 -- P² + Q², of a choice's true sums in a slot; slots are counted from 0 to T - 1
 abbrev pub apparentSquaredIn : ℕ → Choice → ℕ
@@ -26,7 +26,7 @@ N b = length (b .loads)
 -- "the sheet's choice": one setting for each load of the book, whose number c and whose worth stand on the sheet's first line
 pub record OnSheet (b : Problem) (sheet : List ℕ) (choice : Choice) : Type 0 where
   pub of-book : IsChoice (b .loads) choice
-  pub numbers : (k : ℕ) → k < N b → field sheet (18 + 2 * k) 2 ≡ getD choice k (standing (T b)) .number
+  pub numbers : (k : ℕ) → k < N b → field sheet (18 + 2 * k) 2 ≡ getD choice k noSetting .number
   pub worth : field sheet 2 8 ≡ worthOf choice
 
 -- M-106's "(2d + 3)² × S²", which 4 × d² × (P² + Q²) keeps to: the apparent power is at most 1 + 3/(2d) times the limit

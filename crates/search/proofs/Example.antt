@@ -6,7 +6,7 @@ use mathlib.Core.List.{List, [], _∷_}
 use native.Mathlib.Omega.{arith}
 use lib.IntN.{pos, negsuc, natAbs}
 use lib.ListN.{getD}
-use Rattle.model.specs.Book.{Power, Setting, Settings, standing}
+use Rattle.model.specs.Book.{Power, noPower, Setting, Settings}
 use Rattle.model.specs.Choice.{noSetting}
 use Rattle.model.specs.Grid.{Slot}
 use Rattle.model.specs.Valid.{SettingKept}
@@ -29,8 +29,11 @@ first = record { p = 5; q = pos 5 }
 abbrev second : Power
 second = record { p = 5; q = negsuc 3 }
 
+abbrev standing : Setting
+standing = record { number = 0; worth = 0; powers = noPower ∷ [] }
+
 abbrev settings : Settings
-settings = standing 1 ∷ option 1 first ∷ option 2 second ∷ []
+settings = standing ∷ option 1 first ∷ option 2 second ∷ []
 
 abbrev still : SettingMove
 still = record { gain = 0; digit = 0; back = 0; up = 0; down = 0; active = 0 ∷ 0 ∷ 0 ∷ 0 ∷ [] }
@@ -50,7 +53,7 @@ load =
 abbrev grid : Grid
 grid = record { cells = 242; width = 22; rows = 11; slots = 1; tops = 11 ∷ 1 ∷ 1 ∷ 1 ∷ [] }
 
-kept-standing : SettingKept 1 (standing 1)
+kept-standing : SettingKept 1 standing
 kept-standing zero = omega arith
 kept-standing (suc place) = omega arith
 

@@ -8,7 +8,7 @@ use borrow.Author.Tests.{eq-eqb, ne-eqb}
 use Rattle.model.specs.declared.Refusal.the-variants.{NotHex, WrongKind, SlotsOrOptionsOutOfRange, WrongLength, ReactiveExceedsActive}
 use Rattle.model.specs.Lists.{within}
 use Rattle.model.specs.Refusals.{first}
-use Rattle.model.specs.Book.{loadRules, optionCount, optionStart}
+use Rattle.model.specs.Book.{loadKinds, loadRules, optionCount, optionStart}
 use Rattle.model.proofs.RefusalLaws.{first-here, first-next, first-last}
 use Rattle.hex.proofs.RangeLaws.{kind-long, ranged, in-range}
 use native.Mathlib.Omega.{arith}
@@ -31,21 +31,24 @@ hex : (c : tie.Else1) → Left (c .before .before .before .args .slots) (c .befo
 unfolding loadRules
 hex c = first-next NotHex _ _ (ap not (sym (c .before .all-digits .ensures)) ∙ c .if1 .left)
 
+slice-aggregate-wrong-kind : tie.Need-slice-aggregate-wrong-kind
+slice-aggregate-wrong-kind c = search needs
+
 wrong-kind-requires : tie.Need-wrong-kind-requires
 wrong-kind-requires c κs = search needs
 
 returns-2 : tie.Need-returns-2
 unfolding loadRules
-returns-2 c = sym (hex (c .before .before) ∙ first-here WrongKind _ _ (sym (c .before .wrong-kind .ensures) ∙ c .if2 .taken))
+returns-2 c = sym (hex (c .before .before .before) ∙ first-here WrongKind _ _ (sym (c .before .wrong-kind .ensures) ∙ c .if2 .taken))
 
-kind : (c : tie.Else2) → Left (c .before .before .before .before .before .args .slots) (c .before .before .before .before .before .args .line .now) 2
+kind : (c : tie.Else2) → Left (c .before .before .before .before .before .before .args .slots) (c .before .before .before .before .before .before .args .line .now) 2
 unfolding loadRules
-kind c = hex (c .before .before) ∙ first-next WrongKind _ _ (sym (c .before .wrong-kind .ensures) ∙ c .if2 .left)
+kind c = hex (c .before .before .before) ∙ first-next WrongKind _ _ (sym (c .before .wrong-kind .ensures) ∙ c .if2 .left)
 
 number-requires : tie.Need-number-requires
 number-requires c κs =
-    let l = c .before .before .before .before .before .args .line .now in
-    omega (arith, kind-long 2 l (sym (c .before .wrong-kind .ensures) ∙ c .if2 .left))
+    let l = c .before .before .before .before .before .before .args .line .now in
+    omega (arith, kind-long loadKinds l (sym (c .before .wrong-kind .ensures) ∙ c .if2 .left))
 
 outside-requires : tie.Need-outside-requires
 outside-requires c κs = search needs
@@ -56,39 +59,39 @@ returns-3 c =
     sym (kind (c .before .before .before)
     ∙ first-here SlotsOrOptionsOutOfRange _ _ (ranged _ _ 1 3 _ (c .before .before .number .ensures) (c .before .outside .ensures) ∙ c .if3 .taken))
 
-few : (c : tie.Else3) → not (within 1 3 (optionCount (c .before .before .before .before .before .before .before .before .args .line .now))) ≡ false
+few : (c : tie.Else3) → not (within 1 3 (optionCount (c .before .before .before .before .before .before .before .before .before .args .line .now))) ≡ false
 few c = ranged _ _ 1 3 _ (c .before .before .number .ensures) (c .before .outside .ensures) ∙ c .if3 .left
 
 count : (c : tie.Else3)
-    → Left (c .before .before .before .before .before .before .before .before .args .slots) (c .before .before .before .before .before .before .before .before .args .line .now) 3
+    → Left (c .before .before .before .before .before .before .before .before .before .args .slots) (c .before .before .before .before .before .before .before .before .before .args .line .now) 3
 unfolding loadRules
 count c = kind (c .before .before .before) ∙ first-next SlotsOrOptionsOutOfRange _ _ (few c)
 
 option-start-requires : tie.Need-option-start-requires
 option-start-requires c κs =
-    let l = c .before .before .before .before .before .before .before .before .args .line .now in
+    let l = c .before .before .before .before .before .before .before .before .before .args .line .now in
     omega (arith, in-range 1 3 (optionCount l) (few c))
 
 due : (c : tie.After-option-start)
-    → c .option-start .result ≡ optionStart (c .before .before .before .before .before .before .before .before .before .args .slots) (optionCount (c .before .before .before .before .before .before .before .before .before .args .line .now))
+    → c .option-start .result ≡ optionStart (c .before .before .before .before .before .before .before .before .before .before .args .slots) (optionCount (c .before .before .before .before .before .before .before .before .before .before .args .line .now))
 due c = c .option-start .ensures ∙ ap (optionStart _) (c .before .before .before .number .ensures)
 
 returns-4 : tie.Need-returns-4
 unfolding loadRules
 returns-4 c =
-    let a = c .before .before .before .before .before .before .before .before .before .before .args in
+    let a = c .before .before .before .before .before .before .before .before .before .before .before .args in
     sym (count (c .before .before) ∙ first-here WrongLength _ _ (ap not (ne-eqb (length (a .line .now)) (optionStart (a .slots) (optionCount (a .line .now))) (λ e. c .if4 .taken (e ∙ sym (due (c .before)))))))
 
 digits : (c : tie.Else4)
-    → Left (c .before .before .before .before .before .before .before .before .before .before .args .slots) (c .before .before .before .before .before .before .before .before .before .before .args .line .now) 4
+    → Left (c .before .before .before .before .before .before .before .before .before .before .before .args .slots) (c .before .before .before .before .before .before .before .before .before .before .before .args .line .now) 4
 unfolding loadRules
 digits c = count (c .before .before) ∙ first-next WrongLength _ _ (ap not (eq-eqb _ _ (c .if4 .left ∙ due (c .before))))
 
 some-exceeds-requires : tie.Need-some-exceeds-requires
 some-exceeds-requires c κs =
-    let a = c .before .before .before .before .before .before .before .before .before .before .args in
+    let a = c .before .before .before .before .before .before .before .before .before .before .before .args in
     record {
-      slots = c .before .before .before .before .before .before .before .before .before .before .pre;
+      slots = c .before .before .before .before .before .before .before .before .before .before .before .pre;
       options = rw (c .before .before .before .before .number .ensures) (in-range 1 3 (optionCount (a .line .now)) (few (c .before .before)) .1);
       stated = c .before .before .before .before .number .ensures;
       long = c .if4 .left ∙ c .before .option-start .ensures;
@@ -108,6 +111,7 @@ load-finding-spec =
     (tie.spec
     all-digits-requires
     returns
+    slice-aggregate-wrong-kind
     wrong-kind-requires
     returns-2
     number-requires

@@ -54,6 +54,7 @@ loop-less : tie.Need-loop-less Inv-loop μ-loop
 loop-less c = search needs
 
 loop-again : tie.Need-loop-again Inv-loop μ-loop
+unfolding powerOf
 loop-again c =
     let a = c .before .before .before .before .before .args in
     let l = c .before .before .loop in
@@ -65,8 +66,8 @@ loop-again c =
       fill-more (reactive vs) (l .reactives) (l .k) _ (omega arith) (ap (λ (x : PowerValue). x .reactive) (c .power-of .ensures)) (l .inv .4),
     )
 
-add-t15 : tie.Need-add-t15 Inv-loop μ-loop
-add-t15 c = search needs
+add-settings : tie.Need-add-settings Inv-loop μ-loop
+add-settings c = search needs
 
 returns : tie.Need-returns Inv-loop μ-loop
 unfolding loadValue
@@ -96,5 +97,5 @@ load-of-spec =
     add-k
     loop-less
     loop-again
-    add-t15
+    add-settings
     returns)

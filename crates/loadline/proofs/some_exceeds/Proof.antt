@@ -1,96 +1,98 @@
--- `loadline::some_exceeds` meets its contract. The invariants: no option passed exceeds in any slot, and this one in no slot passed. Assumes nothing.
-use Prim.Native.Nat.{ℕ, suc, _+_, _-_, _*_, _≤_}
+-- `loadline::some_exceeds` meets its contract. The invariants: no setting passed exceeds in any slot, and this one in no slot passed. Assumes nothing.
+use Prim.Native.Nat.{ℕ, _+_, _-_, _≤_}
 use mathlib.Core.Path.{_≡_, refl, sym, ap, _∙_}
-use mathlib.Core.Bool.{Bool, false}
+use mathlib.Core.Bool.{false}
 use mathlib.Core.List.{List, map}
 use Rattle.model.specs.Lists.{upto, any}
-use Rattle.model.specs.Book.{Power, Setting, optionCount, optionStart, powerAt, optionAt, reactiveExceeds, someExceeds}
+use Rattle.model.specs.Book.{Power, Setting, optionCount, settings, reactiveExceeds}
+use Rattle.model.specs.Choice.{powerIn}
+use Rattle.model.specs.Values.{settingOf}
 use Rattle.model.proofs.UptoLaws.{any-here, any-more}
-use Rattle.loadline.proofs.LineLaws.{holds-option}
+use Rattle.loadline.proofs.LineLaws.{exceedsIn, exceeds-is}
 use borrow.Author.Needs.{needs}
 use native.Mathlib.Omega.{arith}
 use Rattle.loadline.proofs.some_exceeds.Statement.{statement}
 use Rattle.loadline.proofs.some_exceeds.Tie as tie
 
--- the powers of option j + 1, the options of the line, and the test of an option
-abbrev powers : List ℕ → ℕ → ℕ → ℕ → Power
-powers line slots j s = powerAt line (optionStart slots j + 4 + 8 * s)
+-- setting c of the line, and its power in slot s
+abbrev setting : List ℕ → ℕ → ℕ → Setting
+setting line slots c = settingOf (settings slots line) c
 
-abbrev option : List ℕ → ℕ → ℕ → Setting
-option line slots j = optionAt slots line (suc j) (optionStart slots j)
-
-abbrev exceeds : Setting → Bool
-exceeds v = any reactiveExceeds (v .powers)
+abbrev power : List ℕ → ℕ → ℕ → ℕ → Power
+power line slots c s = powerIn s (setting line slots c)
 
 abbrev Inv-loop : tie.InvT-loop
-Inv-loop line slots count found₀ j s₀ found s = (s ≤ slots) × (found ≡ false) × (any reactiveExceeds (map (powers line slots j) (upto s)) ≡ false)
+Inv-loop line slots count found₀ last c s₀ found s = (s ≤ slots) × (found ≡ false) × (any reactiveExceeds (map (power line slots c) (upto s)) ≡ false)
 
 abbrev μ-loop : tie.MeasureT-loop
-μ-loop line slots count found₀ j s₀ found s = slots - s
+μ-loop line slots count found₀ last c s₀ found s = slots - s
 
-abbrev Inv-options : tie.InvT-options
-Inv-options line slots count found₀ j₀ found j = (j ≤ count) × (found ≡ false) × (any exceeds (map (option line slots) (upto j)) ≡ false)
+abbrev Inv-settings : tie.InvT-settings
+Inv-settings line slots count found₀ last c₀ found c = (c ≤ last) × (found ≡ false) × (any (exceedsIn slots) (map (setting line slots) (upto c)) ≡ false)
 
-abbrev μ-options : tie.MeasureT-options
-μ-options line slots count found₀ j₀ found j = count - j
+abbrev μ-settings : tie.MeasureT-settings
+μ-settings line slots count found₀ last c₀ found c = last - c
 
-options-holds : tie.Need-options-holds Inv-loop μ-loop Inv-options μ-options
-options-holds c = (search needs, refl, refl)
+add-settings : tie.Need-add-settings Inv-loop μ-loop Inv-settings μ-settings
+add-settings c = search needs
 
-loop-holds : tie.Need-loop-holds Inv-loop μ-loop Inv-options μ-options
-loop-holds c = (search needs, c .before .options .inv .1, refl)
+settings-holds : tie.Need-settings-holds Inv-loop μ-loop Inv-settings μ-settings
+settings-holds c = (search needs, refl, refl)
 
-exceeds-at-requires : tie.Need-exceeds-at-requires Inv-loop μ-loop Inv-options μ-options
-exceeds-at-requires c κs =
-    let a = c .before .before .before .before .before .args in
-    (holds-option (a .slots) (c .before .before .before .options .j) (a .count) _ (c .before .before .before .before .before .pre) (c .before .before .options-test .taken), c .loop-test .taken)
+loop-holds : tie.Need-loop-holds Inv-loop μ-loop Inv-settings μ-settings
+loop-holds c = (search needs, c .before .settings .inv .1, refl)
 
-add-s : tie.Need-add-s Inv-loop μ-loop Inv-options μ-options
+exceeds-at-requires : tie.Need-exceeds-at-requires Inv-loop μ-loop Inv-settings μ-settings
+exceeds-at-requires c κs = search needs
+
+add-s : tie.Need-add-s Inv-loop μ-loop Inv-settings μ-settings
 add-s c = search needs
 
-loop-less : tie.Need-loop-less Inv-loop μ-loop Inv-options μ-options
+loop-less : tie.Need-loop-less Inv-loop μ-loop Inv-settings μ-settings
 loop-less c = search needs
 
-loop-again : tie.Need-loop-again Inv-loop μ-loop Inv-options μ-options
+loop-again : tie.Need-loop-again Inv-loop μ-loop Inv-settings μ-settings
 loop-again c =
     let a = c .before .before .before .before .before .before .before .args in
     let l = c .before .before .before .loop in
-    let j = c .before .before .before .before .before .options .j in
-    (search needs, l .inv .1, any-more (powers (a .line .now) (a .slots) j) reactiveExceeds (l .s) (l .inv .2) (sym (c .before .exceeds-at .ensures) ∙ c .if1 .left))
+    let k = c .before .before .before .before .before .settings .c in
+    (search needs, l .inv .1, any-more (power (a .line .now) (a .slots) k) reactiveExceeds (l .s) (l .inv .2) (sym (c .before .exceeds-at .ensures) ∙ c .if1 .left))
 
-add-j : tie.Need-add-j Inv-loop μ-loop Inv-options μ-options
-add-j c = search needs
+add-c : tie.Need-add-c Inv-loop μ-loop Inv-settings μ-settings
+add-c c = search needs
 
-options-less : tie.Need-options-less Inv-loop μ-loop Inv-options μ-options
-options-less c = search needs
+settings-less : tie.Need-settings-less Inv-loop μ-loop Inv-settings μ-settings
+settings-less c = search needs
 
-options-again : tie.Need-options-again Inv-loop μ-loop Inv-options μ-options
-options-again c =
+settings-again : tie.Need-settings-again Inv-loop μ-loop Inv-settings μ-settings
+settings-again c =
     let a = c .before .before .before .before .before .args in
-    let o = c .before .before .before .options in
+    let o = c .before .before .before .settings in
     let e : c .before .loop .s ≡ a .slots = omega arith in (
       search needs,
       c .before .loop .inv .1,
-      any-more (option (a .line .now) (a .slots)) exceeds (o .j) (o .inv .2)
-          (ap (λ n. any reactiveExceeds (map (powers (a .line .now) (a .slots) (o .j)) (upto n))) (sym e) ∙ c .before .loop .inv .2),
+      any-more (setting (a .line .now) (a .slots)) (exceedsIn (a .slots)) (o .c) (o .inv .2)
+          (ap (λ n. any reactiveExceeds (map (power (a .line .now) (a .slots) (o .c)) (upto n))) (sym e) ∙ c .before .loop .inv .2),
     )
 
-returns : tie.Need-returns Inv-loop μ-loop Inv-options μ-options
-unfolding someExceeds
+returns : tie.Need-returns Inv-loop μ-loop Inv-settings μ-settings
 returns c =
     let a = c .before .before .before .args in
     let h = c .before .before .before .pre in
-    let e : c .before .options .j ≡ optionCount (a .line .now) = omega arith in
-    c .before .options .inv .1 ∙ sym (c .before .options .inv .2) ∙ ap (λ n. any exceeds (map (option (a .line .now) (a .slots)) (upto n))) e
+    let e : c .before .settings .c ≡ optionCount (a .line .now) + 1 = omega arith in
+    c .before .settings .inv .1
+    ∙ sym (c .before .settings .inv .2)
+    ∙ ap (λ n. any (exceedsIn (a .slots)) (map (setting (a .line .now) (a .slots)) (upto n))) e
+    ∙ sym (exceeds-is (a .slots) (a .line .now))
 
-returns-2 : tie.Need-returns-2 Inv-loop μ-loop Inv-options μ-options
-unfolding someExceeds
+returns-2 : tie.Need-returns-2 Inv-loop μ-loop Inv-settings μ-settings
 returns-2 c =
     let a = c .before .before .before .before .before .before .before .args in
     let h = c .before .before .before .before .before .before .before .pre in
-    let j = c .before .before .before .before .before .options .j in
-    sym (any-here (option (a .line .now) (a .slots)) exceeds (optionCount (a .line .now)) j (omega arith)
-    (any-here (powers (a .line .now) (a .slots) j) reactiveExceeds (a .slots) (c .before .before .before .loop .s) (c .before .before .loop-test .taken) (sym (c .before .exceeds-at .ensures) ∙ c .if1 .taken)))
+    let k = c .before .before .before .before .before .settings .c in
+    sym (exceeds-is (a .slots) (a .line .now)
+    ∙ any-here (setting (a .line .now) (a .slots)) (exceedsIn (a .slots)) (optionCount (a .line .now) + 1) k (omega arith)
+    (any-here (power (a .line .now) (a .slots) k) reactiveExceeds (a .slots) (c .before .before .before .loop .s) (c .before .before .loop-test .taken) (sym (c .before .exceeds-at .ensures) ∙ c .if1 .taken)))
 
 pub some-exceeds-spec : {M : Type 1} → statement M
 some-exceeds-spec =
@@ -98,16 +100,17 @@ some-exceeds-spec =
     (tie.spec
     Inv-loop
     μ-loop
-    Inv-options
-    μ-options
-    options-holds
+    Inv-settings
+    μ-settings
+    add-settings
+    settings-holds
     loop-holds
     exceeds-at-requires
     add-s
     loop-less
     loop-again
-    add-j
-    options-less
-    options-again
+    add-c
+    settings-less
+    settings-again
     returns
     returns-2)
