@@ -156,6 +156,36 @@ fn plans() {
     );
 }
 
+// Loads that draw where they stand, of lines of kind 06: more than the limit in every choice, with the budget that the trials take and one less;
+// more than where they run; and so much that a load passed over by the quick planner would fit later.
+fn standing_plans() {
+    let mut work = [77u64; 1056];
+    let mut sheet = [46u8; 60];
+    let none = b"0101020A00000002000A\n0601000B00000005000B0000\n0601000B00000005000B0000\n";
+    plan_case(b"no plan", none, &mut work, &mut sheet);
+    quick_case(b"no plan", none, &mut sheet);
+    plan_case(
+        b"spent, no plan",
+        b"0101020A00000001000A\n0601000B00000005000B0000\n0601000B00000005000B0000\n",
+        &mut work,
+        &mut sheet,
+    );
+    plan_case(
+        b"runs to draw less",
+        b"0101010A00000064000A\n0601000B0000000000060000\n",
+        &mut work,
+        &mut sheet,
+    );
+    let later = b"0101020500000064000A\n0201000500030000\n060100080000000500040000\n";
+    plan_case(
+        b"both run, of which one stood",
+        later,
+        &mut work,
+        &mut sheet,
+    );
+    quick_case(b"passed over", later, &mut sheet);
+}
+
 // The sheet reader on document 01's example and a sheet.
 fn example_case(name: &[u8], sheet: &[u8]) {
     reader_case(
@@ -303,6 +333,7 @@ fn main() {
     refused_plans();
     refused_budgets();
     plans();
+    standing_plans();
     charges();
     orders();
     views();

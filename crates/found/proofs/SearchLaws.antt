@@ -2,12 +2,14 @@
 -- Assumes nothing.
 use mathlib.Core.Path.{_≡_, refl, sym, ap, ap₂, subst, _∙_}
 use mathlib.Core.Logic.{⊎-elim}
-use mathlib.Core.Bool.{true, false, false≢true}
+use mathlib.Core.Bool.{Bool, true, false, not, false≢true}
 use mathlib.Core.List.{List, [], _∷_}
-use mathlib.Core.Option.{some, Option·none-ne-some, Option·some-injective}
+use mathlib.Core.Option.{Option, none, some, Option·none-ne-some, Option·some-ne-none, Option·some-injective}
 use Prim.Native.Nat.{ℕ, zero, suc, _+_, _*_, _<_, _≤_}
 use native.Mathlib.Omega.{arith}
+use lib.Dec.{eqb}
 use lib.ListN.{length, drop}
+use borrow.Author.Tests.{eq-eqb, eqb-true, not-true, not-false}
 use Rattle.model.specs.declared.Book.{Book}
 use Rattle.model.specs.Lists.{Every}
 use Rattle.model.specs.Book.{Settings, Problem}
@@ -15,7 +17,7 @@ use Rattle.model.specs.Choice.{Choice, codeOf}
 use Rattle.model.specs.Grid.{Slot, slotsOf, bestAdmitted, plan}
 use Rattle.model.specs.Trials.{neededWords, WordsKept, trials, trialsUpto}
 use Rattle.model.specs.Values.{Held, problemOf}
-use Rattle.model.specs.Cells.{Key}
+use Rattle.model.specs.Cells.{Key, choiceKey}
 use Rattle.model.proofs.RecurrenceLaws.{key?}
 use Rattle.model.proofs.HeldLaws.{held-valid, held-count}
 use Rattle.table.specs.declared.Cell.{Cell}
@@ -44,14 +46,23 @@ layer-room {ws} {ws′} {lows} {highs} {grid} {cur} p h =
     let low : cur ≤ grid .cells = ⊎-elim (λ e. omega (arith, e)) (λ e. omega (arith, e)) (p .side) in
     omega (arith, low, h, p .same-length)
 
--- a cell with the key of a choice has its code
-coded-as : (r : Cell) (c : Choice) → keyOf r ≡ key? (some c) → r .code ≡ codeOf c
+-- a cell with the key of what may be a choice: it is empty and there is none, or it has the choice's code
+cell-none : (r : Cell) (m : Option Choice) → keyOf r ≡ key? m → r .worth ≡ 0 → m ≡ none
 unfolding keyOf
-coded-as r c = go (r .worth)
+cell-none r m e z = go m (ap (λ w. keyIf w (r .code)) (sym z) ∙ e)
   where
-    go : (w : ℕ) → keyIf w (r .code) ≡ key? (some c) → r .code ≡ codeOf c
-    go zero e = absurd (Option·none-ne-some _ e)
-    go (suc w) e = ap (λ (x : Key). x .code) (Option·some-injective _ _ e)
+    go : (m : Option Choice) → none ≡ key? m → m ≡ none
+    go none q = refl
+    go (some c) q = absurd (Option·none-ne-some (choiceKey c) q)
+
+cell-some : (r : Cell) (m : Option Choice) → keyOf r ≡ key? m → (r .worth ≡ 0 → ⊥) → (c : Choice) × (m ≡ some c) × (r .code ≡ codeOf c)
+unfolding keyOf
+cell-some r m = go (r .worth) m
+  where
+    go : (w : ℕ) (m : Option Choice) → keyIf w (r .code) ≡ key? m → (w ≡ 0 → ⊥) → (c : Choice) × (m ≡ some c) × (r .code ≡ codeOf c)
+    go zero m e n = absurd (n refl)
+    go (suc w) none e n = absurd (Option·some-ne-none _ e)
+    go (suc w) (some c) e n = (c, refl, ap (λ (x : Key). x .code) (Option·some-injective _ _ e))
 
 -- the layout of a book, for its number of loads
 pub record Laidout (b : Problem) (lay : Layout) (n : ℕ) : Type 0 where
@@ -84,14 +95,15 @@ module _ (v : Book) (held : Held v) (lay : Layout) (is : LayoutIs (problemOf v) 
 
   -- over the budget
   pub found-over : (ws lows highs : List ℕ) (cur ts : ℕ) → Searched ws lows highs (lay .grid) (lay .origin) (v .count) (lay .moves) model (v .budget) cur ts → v .budget < ts
-      → (code : ℕ) → Found (problemOf v) (record { within = false; trials = ts; code = code })
+      → (admitted : Bool) (code : ℕ) → Found (problemOf v) (record { within = false; trials = ts; admitted = admitted; code = code })
   unfolding problemOf
-  found-over ws lows highs cur ts s h code =
+  found-over ws lows highs cur ts s h admitted code =
       record {
         over = λ e. subst (λ x. v .budget < x) trials-are (s .over h);
         enough = λ e. absurd (false≢true e);
         counted = λ e. absurd (false≢true e);
-        coded = λ e. absurd (false≢true e);
+        missing = λ e. absurd (false≢true e);
+        planned = λ e. absurd (false≢true e);
       }
 
   module _ (steps tops widths : List ℕ) (ins : SlotsIn 0 steps tops widths (v .limits) 0 (slotsOf (problemOf v))) where
@@ -106,19 +118,21 @@ module _ (v : Book) (held : Held v) (lay : Layout) (is : LayoutIs (problemOf v) 
     pub scanned : SlotsHeld (lay .grid .slots) (v .count) steps (lay .grid .tops) widths (v .limits)
     scanned = slots-held model slots-in small
 
-    -- within the budget: the trials, and the code of the plan
+    -- within the budget: the trials, and the plan
     pub found-within : (ws lows highs : List ℕ) (cur ts : ℕ) (r : Cell)
         → Searched ws lows highs (lay .grid) (lay .origin) (v .count) (lay .moves) model (v .budget) cur ts → ts ≤ v .budget
         → ((h : SlotsHeld (lay .grid .slots) (v .count) steps (lay .grid .tops) widths (v .limits)) → keyOf r ≡ bestOfLayer (h .ss) ws lows highs (lay .grid) cur)
-        → Found (problemOf v) (record { within = true; trials = ts; code = r .code })
+        → Found (problemOf v) (record { within = true; trials = ts; admitted = not (eqb (r .worth) 0); code = r .code })
     unfolding problemOf plan
     found-within ws lows highs cur ts r s h found =
         let w = s .within h in
         let t : ts ≡ trials (problemOf v) = w .0 ∙ trials-are in
-        let k = scan-finds model ws lows highs cur r (laidout .ratio) slots-in small (w .1) found in
+        let k = scan-finds model ws lows highs cur r (laidout .ratio) slots-in small (w .1) found
+        ∙ ap₂ (λ (ss : List Slot) (ls : List Settings). key? (bestAdmitted ss ls)) (laidout .slots-are) (laidout .loads-are) in
         record {
           over = λ e. absurd (false≢true (sym e));
           enough = λ e. subst (λ x. x ≤ v .budget) t h;
           counted = λ e. t;
-          coded = λ e c p. coded-as r c (k ∙ ap₂ (λ (ss : List Slot) (ls : List Settings). key? (bestAdmitted ss ls)) (laidout .slots-are) (laidout .loads-are) ∙ ap key? p);
+          missing = λ e f. cell-none r (plan (problemOf v)) k (eqb-true (r .worth) 0 (not-false (eqb (r .worth) 0) f));
+          planned = λ e f. cell-some r (plan (problemOf v)) k (λ z. false≢true (sym (not-true (eqb (r .worth) 0) f) ∙ eq-eqb (r .worth) 0 z));
         }

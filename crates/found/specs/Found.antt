@@ -2,16 +2,17 @@
 use Prim.Native.Nat.{_<_, _≤_}
 use mathlib.Core.Path.{_≡_}
 use mathlib.Core.Bool.{true, false}
-use mathlib.Core.Option.{some}
+use mathlib.Core.Option.{none, some}
 use Rattle.model.specs.Book.{Problem}
 use Rattle.model.specs.Choice.{Choice, codeOf}
 use Rattle.model.specs.Grid.{plan}
 use Rattle.model.specs.Trials.{trials}
 use Rattle.found.specs.declared.Search.{Search}
 
--- what the search of a book found: the trials are over the budget, or they are the book's, and the code is the plan's
+-- what the search of a book found: the trials are over the budget, or they are the book's, and there is no plan, or the code is the plan's
 pub record Found (b : Problem) (v : Search) : Type 0 where
   pub over : v .within ≡ false → b .budget < trials b
   pub enough : v .within ≡ true → trials b ≤ b .budget
   pub counted : v .within ≡ true → v .trials ≡ trials b
-  pub coded : v .within ≡ true → (c : Choice) → plan b ≡ some c → v .code ≡ codeOf c
+  pub missing : v .within ≡ true → v .admitted ≡ false → plan b ≡ none
+  pub planned : v .within ≡ true → v .admitted ≡ true → (c : Choice) × (plan b ≡ some c) × (v .code ≡ codeOf c)

@@ -14,10 +14,11 @@ ghost use Rattle.slots.specs.Slots.{SlotsIn};
 ghost use Rattle.layout.specs.Layout.{LayoutIs};
 ghost use Rattle.found.specs.Found.{Found};
 
-// Whether the trials are within the budget; if so, their number and the code of the plan.
+// Whether the trials are within the budget; if so, their number, whether a choice is admitted, and the code of the plan.
 pub struct Search {
     pub within: bool,
     pub trials: u64,
+    pub admitted: bool,
     pub code: u64,
 }
 
@@ -56,6 +57,7 @@ pub fn search_for(book: Book, slots: Slots, layout: Layout, work: &mut [u64]) ->
         return Search {
             within: false,
             trials: trials as u64,
+            admitted: false,
             code: 0,
         };
     }
@@ -78,6 +80,7 @@ pub fn search_for(book: Book, slots: Slots, layout: Layout, work: &mut [u64]) ->
     Search {
         within: true,
         trials: trials as u64,
+        admitted: best.worth != 0,
         code: best.code,
     }
 }

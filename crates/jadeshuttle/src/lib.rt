@@ -12,23 +12,24 @@ ghost use Rattle.model.specs.Answers.{Writes};
 ghost use Rattle.model.specs.Calls.{plannerResult, freeWords};
 ghost use Rattle.model.specs.Quick.{quickResult};
 ghost use Rattle.model.specs.SheetReader.{readerResult, sheetAnswerOf};
-ghost use Rattle.model.specs.Demand.{Demand3};
+ghost use Rattle.model.specs.Demand.{Answered, Demand3};
 ghost use Rattle.model.specs.Charge.{chargeResult, chargeAnswerOf};
 ghost use Rattle.model.specs.Order.{orderResult, WritesOrder, OrderKept};
 ghost use Rattle.model.specs.Views.{millResult, supplyResult, NothingElse};
 ghost use Rattle.model.specs.Bounds.{mostCharge};
 
-// The planner: the sheet of the plan, or the first refusal of 1 to 12.
+// The planner: the sheet of the plan, or the first refusal of 1 to 12 and 17.
 #[no_mangle]
 pub extern "C" fn jadeshuttle_plan(book: &[u8], work: &mut [u64], sheet: &mut [u8]) -> Answer
     ensures result { λ r. ⌜ Writes (plannerResult (now (book .entry)) (length (now (work .entry))) (length (now (sheet .entry)))) (now (sheet .entry)) (now (sheet .exit)) r ⌝ }
     ensures words { λ _. ⌜ WordsKept (freeWords (now (book .entry)) (length (now (work .entry))) (length (now (sheet .entry)))) (now (work .entry)) (now (work .exit)) ⌝ }
+    ensures answered { λ r. ⌜ Answered (now (book .entry)) (length (now (work .entry))) (length (now (sheet .entry))) (r .number) ⌝ }
     ensures demand { λ r. ⌜ (r .number ≡ 0 → Demand3 (now (book .entry)) (now (sheet .exit))) ⌝ }
 {
     planner::plan(book, work, sheet)
 }
 
-// The quick planner: refusals 1 to 8 and 11, or the quick sheet.
+// The quick planner: refusals 1 to 8, 11 and 17, or the quick sheet.
 #[no_mangle]
 pub extern "C" fn jadeshuttle_quick(book: &[u8], sheet: &mut [u8]) -> Answer
     ensures { λ r. ⌜ Writes (quickResult (now (book .entry)) (length (now (sheet .entry)))) (now (sheet .entry)) (now (sheet .exit)) r ⌝ }

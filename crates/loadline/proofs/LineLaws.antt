@@ -1,21 +1,22 @@
 -- Load lines: where things stand on them, their settings by number, and Q plus 32,768.
 -- Assumes nothing.
 use mathlib.Core.Path.{_≡_, refl, sym, ap, ap₂, _∙_}
-use mathlib.Core.Bool.{Bool, cond, _||_}
+use mathlib.Core.Bool.{Bool, true, false, cond, _||_}
 use mathlib.Core.Logic.{_⊎_, inl, inr}
 use mathlib.Core.List.{List, [], _∷_, map}
 use Prim.Native.Nat.{ℕ, zero, suc, _+_, _-_, _*_, _%_, _<_, _≤_}
 use native.Mathlib.Nat.{mul-le-mul-right, suc-mul, le-trans}
 use native.Mathlib.Numerals.{add-one}
 use native.Mathlib.Omega.{arith}
+use lib.Dec.{eqb}
 use lib.IntN.{ℤ, pos, negsuc, natAbs, subℕ}
 use lib.ListN.{length, getD, List·getD-eq-default}
 use borrow.Author.Tests.{lt-ltb, le-ltb, eqb-true, not-false}
 use Rattle.model.specs.declared.Finding.the-variants.{Passed}
 use Rattle.model.specs.Lists.{upto, any, Every}
-use Rattle.model.specs.Frames.{signed}
+use Rattle.model.specs.Frames.{field, signed}
 use Rattle.model.specs.Refusals.{first}
-use Rattle.model.specs.Book.{noPower, Setting, Settings, optionCount, optionStart, powerAt, optionAt, settings, reactiveExceeds, someExceeds, loadRules}
+use Rattle.model.specs.Book.{Power, noPower, Setting, Settings, optionCount, standingPairs, optionStart, powerAt, optionAt, standingPower, settings, reactiveExceeds, someExceeds, loadRules}
 use Rattle.model.specs.Choice.{powerIn, noSetting}
 use Rattle.model.specs.Values.{raised, settingOf}
 use Rattle.model.proofs.IntegerLaws.{split, sub-neg}
@@ -26,12 +27,13 @@ use Rattle.hex.proofs.RangeLaws.{in-range}
 use Rattle.loadline.specs.LoadLine.{LoadLine}
 
 -- a line that is not refused
-pub load-line : (t : ℕ) (line : List ℕ) → t ≤ 4 → first (loadRules t line) ≡ Passed → LoadLine t (optionCount line) line
+pub load-line : (t : ℕ) (line : List ℕ) → t ≤ 4 → first (loadRules t line) ≡ Passed → LoadLine t (standingPairs t line) (optionCount line) line
 unfolding loadRules
 load-line t line h e =
     let n = first-passed (loadRules t line) e in
     record {
       slots = h;
+      drawn = refl;
       options = in-range 1 3 (optionCount line) (n .1 .1 .0) .1;
       stated = refl;
       long = eqb-true _ _ (not-false _ (n .1 .1 .1 .0));
@@ -39,41 +41,60 @@ load-line t line h e =
 
 -- ---- places on a load line
 
-pub option-next : (t j : ℕ) → optionStart t (j + 1) ≡ optionStart t j + (4 + 8 * t)
-unfolding optionStart
-option-next t j = rw (add-one j, suc-mul j (4 + 8 * t)) (omega arith)
+-- no line carries more pairs for standing than there are slots
+pub pairs-most : (t : ℕ) (line : List ℕ) → standingPairs t line ≤ t
+unfolding standingPairs
+pairs-most t line = go (eqb (field line 0 2) 6)
+  where
+    go : (b : Bool) → cond b t 0 ≤ t
+    go true = omega arith
+    go false = omega arith
 
-option-mono : (t i j : ℕ) → i ≤ j → optionStart t i ≤ optionStart t j
+pub pairs-few : (t pairs o : ℕ) (line : List ℕ) → LoadLine t pairs o line → pairs ≤ t
+pairs-few t pairs o line h = omega (arith, h .drawn, pairs-most t line)
+
+pub option-next : (t pairs j : ℕ) → optionStart t pairs (j + 1) ≡ optionStart t pairs j + (4 + 8 * t)
 unfolding optionStart
-option-mono t i j h = omega (arith, mul-le-mul-right (4 + 8 * t) h)
+option-next t pairs j = rw (add-one j, suc-mul j (4 + 8 * t)) (omega arith)
+
+option-mono : (t pairs i j : ℕ) → i ≤ j → optionStart t pairs i ≤ optionStart t pairs j
+unfolding optionStart
+option-mono t pairs i j h = omega (arith, mul-le-mul-right (4 + 8 * t) h)
 
 pub option-product : (t j : ℕ) → t ≤ 4 → j ≤ 3 → j * (4 + 8 * t) ≤ 108
 option-product t j p q = le-trans (mul-le-mul-right (4 + 8 * t) q) (omega arith)
 
-pub option-small : (t j : ℕ) → t ≤ 4 → j ≤ 3 → optionStart t j ≤ 112
+pub option-small : (t pairs j : ℕ) → t ≤ 4 → pairs ≤ t → j ≤ 3 → optionStart t pairs j ≤ 144
 unfolding optionStart
-option-small t j p q = omega (arith, option-product t j p q)
+option-small t pairs j p few q = omega (arith, option-product t j p q)
 
--- the line reaches to the end of option j + 1
-pub holds-option : (t j o : ℕ) (line : List ℕ) → LoadLine t o line → j < o → optionStart t (j + 1) ≤ length line
-holds-option t j o line h p = rw (h .long) (option-mono t (j + 1) o (omega arith))
+-- what is asked of an option whose start is wanted
+pub option-ranges : (t pairs j o : ℕ) (line : List ℕ) → LoadLine t pairs o line → j ≤ o → (t ≤ 4) × (pairs ≤ t) × (j ≤ 3)
+option-ranges t pairs j o line h p = (h .slots, pairs-few t pairs o line h, omega (arith, h .options))
 
-pub line-holds : (t o : ℕ) (line : List ℕ) → LoadLine t o line → 4 ≤ length line
+-- the line reaches to the end of option j + 1, and of what it carries for standing
+pub holds-option : (t pairs j o : ℕ) (line : List ℕ) → LoadLine t pairs o line → j < o → optionStart t pairs (j + 1) ≤ length line
+holds-option t pairs j o line h p = rw (h .long) (option-mono t pairs (j + 1) o (omega arith))
+
+pub line-holds : (t pairs o : ℕ) (line : List ℕ) → LoadLine t pairs o line → 4 + 8 * pairs ≤ length line
 unfolding optionStart
-line-holds t o line h = rw (h .long) (omega arith)
+line-holds t pairs o line h = rw (h .long) (omega arith)
 
 -- ---- the settings of a load line
 
+-- option j + 1
+abbrev optionOn : ℕ → List ℕ → ℕ → Setting
+optionOn t line j = optionAt t line (suc j) (optionStart t (standingPairs t line) j)
+
 pub length-settings : (t : ℕ) (line : List ℕ) → length (settings t line) ≡ optionCount line + 1
-length-settings t line =
-    ap suc (length-upto (λ j. optionAt t line (suc j) (optionStart t j)) (optionCount line)) ∙ (omega arith)
+length-settings t line = ap suc (length-upto (optionOn t line) (optionCount line)) ∙ (omega arith)
 
 pub setting-option : (t c : ℕ) (line : List ℕ) → 1 ≤ c → c ≤ optionCount line
-    → settingOf (settings t line) c ≡ optionAt t line c (optionStart t (c - 1))
+    → settingOf (settings t line) c ≡ optionAt t line c (optionStart t (standingPairs t line) (c - 1))
 setting-option t zero line p q = absurd (omega arith)
 setting-option t (suc j) line p q =
-    getD-upto (λ i. optionAt t line (suc i) (optionStart t i)) (optionCount line) j noSetting (omega arith)
-    ∙ ap (λ i. optionAt t line (suc j) (optionStart t i)) less
+    getD-upto (optionOn t line) (optionCount line) j noSetting (omega arith)
+    ∙ ap (λ i. optionAt t line (suc j) (optionStart t (standingPairs t line) i)) less
   where
     less : j ≡ suc j - 1
     less = omega arith
@@ -81,32 +102,42 @@ setting-option t (suc j) line p q =
 pub setting-past : (t c : ℕ) (line : List ℕ) → optionCount line < c → settingOf (settings t line) c ≡ noSetting
 setting-past t c line h = List·getD-eq-default (settings t line) noSetting {n = c} (omega (arith, length-settings t line))
 
-no-power : (xs : List ℕ) (slot : ℕ) → getD (map (λ s. noPower) xs) slot noPower ≡ noPower
-no-power [] slot = refl
-no-power (x ∷ xs) zero = refl
-no-power (x ∷ xs) (suc slot) = no-power xs slot
+-- past the pairs that a line carries standing draws nothing
+pub standing-none : (t s : ℕ) (line : List ℕ) → standingPairs t line ≤ s → standingPower t line s ≡ noPower
+unfolding standingPower
+standing-none t s line h = ap (λ b. cond b (powerAt line (4 + 8 * s)) noPower) (le-ltb s (standingPairs t line) h)
 
--- the power of setting c in slot s: none for standing, past the last option and past the last slot
+pub standing-at : (t s : ℕ) (line : List ℕ) → s < standingPairs t line → standingPower t line s ≡ powerAt line (4 + 8 * s)
+unfolding standingPower
+standing-at t s line h = ap (λ b. cond b (powerAt line (4 + 8 * s)) noPower) (lt-ltb s (standingPairs t line) h)
+
+-- the power of setting c in slot s: none past the last option and past the last slot
 module _ (t c s : ℕ) (line : List ℕ) where
-  pub power-standing : c < 1 → powerIn s (settingOf (settings t line) c) ≡ noPower
+  pub power-standing : c < 1 → powerIn s (settingOf (settings t line) c) ≡ standingPower t line s
   power-standing h =
       let z : c ≡ 0 = omega arith in
-      ap (λ j. powerIn s (settingOf (settings t line) j)) z ∙ no-power (upto t) s
+      ap (λ j. powerIn s (settingOf (settings t line) j)) z ∙ go (split s t)
+    where
+      go : (s < t) ⊎ (t ≤ s) → getD (map (standingPower t line) (upto t)) s noPower ≡ standingPower t line s
+      go (inl l) = getD-upto (standingPower t line) t s noPower l
+      go (inr l) =
+          List·getD-eq-default (map (standingPower t line) (upto t)) noPower {n = s} (omega (arith, length-upto (standingPower t line) t))
+          ∙ sym (standing-none t s line (omega (arith, pairs-most t line)))
 
   pub power-past : optionCount line < c → powerIn s (settingOf (settings t line) c) ≡ noPower
   power-past h = ap (powerIn s) (setting-past t c line h)
 
   module _ (p : 1 ≤ c) (q : c ≤ optionCount line) where
+    -- the power in slot i
+    abbrev placed : ℕ → Power
+    placed i = powerAt line (optionStart t (standingPairs t line) (c - 1) + 4 + 8 * i)
+
     pub power-no-slot : t ≤ s → powerIn s (settingOf (settings t line) c) ≡ noPower
     power-no-slot h =
-        ap (powerIn s) (setting-option t c line p q)
-        ∙ List·getD-eq-default (map (λ i. powerAt line (optionStart t (c - 1) + 4 + 8 * i)) (upto t)) noPower
-        (omega (arith, length-upto (λ i. powerAt line (optionStart t (c - 1) + 4 + 8 * i)) t))
+        ap (powerIn s) (setting-option t c line p q) ∙ List·getD-eq-default (map placed (upto t)) noPower (omega (arith, length-upto placed t))
 
-    pub power-option : s < t → powerIn s (settingOf (settings t line) c) ≡ powerAt line (optionStart t (c - 1) + 4 + 8 * s)
-    power-option h =
-        ap (powerIn s) (setting-option t c line p q)
-        ∙ getD-upto (λ i. powerAt line (optionStart t (c - 1) + 4 + 8 * i)) t s noPower h
+    pub power-option : s < t → powerIn s (settingOf (settings t line) c) ≡ placed s
+    power-option h = ap (powerIn s) (setting-option t c line p q) ∙ getD-upto placed t s noPower h
 
 -- ---- |Q| > P, by the numbers of settings and slots
 

@@ -3,7 +3,7 @@ use Prim.Native.Nat.{ℕ, _≤_}
 use mathlib.Core.Path.{_≡_}
 use mathlib.Core.List.{List}
 use lib.ListN.{length}
-use Rattle.model.specs.Book.{Power, optionCount, optionStart}
+use Rattle.model.specs.Book.{Power, optionCount, standingPairs, optionStart}
 use Rattle.model.specs.Values.{raised}
 use Rattle.model.specs.Bounds.{mostSlots, mostOptions}
 use Rattle.loadline.specs.declared.PowerValue.{PowerValue}
@@ -12,9 +12,10 @@ use Rattle.loadline.specs.declared.PowerValue.{PowerValue}
 abbrev pub powerValue : Power → PowerValue
 powerValue x = record { active = x .p; reactive = raised (x .q) }
 
--- a load line of t slots and o options
-pub record LoadLine (t o : ℕ) (line : List ℕ) : Type 0 where
+-- a load line of t slots, with so many pairs for standing and o options
+pub record LoadLine (t pairs o : ℕ) (line : List ℕ) : Type 0 where
   pub slots : t ≤ mostSlots
+  pub drawn : pairs ≡ standingPairs t line
   pub options : o ≤ mostOptions
   pub stated : o ≡ optionCount line
-  pub long : length line ≡ optionStart t o
+  pub long : length line ≡ optionStart t pairs o

@@ -9,7 +9,7 @@ ghost use Prim.Native.Nat.{_+_, _≤_};
 ghost use lib.ListN.{length};
 ghost use Rattle.model.specs.Lists.{upto};
 ghost use Rattle.model.specs.Refusals.{first};
-ghost use Rattle.model.specs.Book.{optionStart, powerAt, settings, reactiveExceeds, someExceeds, loadRules};
+ghost use Rattle.model.specs.Book.{noPower, standingPairs, optionStart, powerAt, standingPower, settings, reactiveExceeds, someExceeds, loadRules};
 ghost use Rattle.model.specs.Choice.{powerIn};
 ghost use Rattle.model.specs.Values.{settingOf, loadValue};
 ghost use Rattle.model.specs.Bounds.{mostSlots, mostOptions, mostSettings};
@@ -21,12 +21,34 @@ pub struct PowerValue {
     pub reactive: u64,
 }
 
-// Where option j + 1 of a load line starts.
-fn option_start(slots: usize, j: usize) -> usize
-    requires { ⌜ (slots ≤ mostSlots) × (j ≤ mostOptions) ⌝ }
-    ensures { λ r. ⌜ r ≡ optionStart slots j ⌝ }
+impl PowerValue {
+    fn none() -> PowerValue
+        ensures { λ r. ⌜ r ≡ powerValue noPower ⌝ }
+    {
+        PowerValue {
+            active: 0,
+            reactive: 32768,
+        }
+    }
+}
+
+// How many pairs for standing a load line carries, by its kind.
+fn standing_pairs(line: &[u8], slots: usize) -> usize
+    requires { ⌜ 4 ≤ length (now line) ⌝ }
+    ensures { λ r. ⌜ r ≡ standingPairs slots (now (line .entry)) ⌝ }
 {
-    4 + j * (4 + 8 * slots)
+    if hex::number(line, 0, 2) == 6 {
+        return slots;
+    }
+    0
+}
+
+// Where option j + 1 of a load line with so many pairs for standing starts.
+fn option_start(slots: usize, pairs: usize, j: usize) -> usize
+    requires { ⌜ (slots ≤ mostSlots) × (pairs ≤ slots) × (j ≤ mostOptions) ⌝ }
+    ensures { λ r. ⌜ r ≡ optionStart slots pairs j ⌝ }
+{
+    4 + 8 * pairs + j * (4 + 8 * slots)
 }
 
 // The P and Q that start at a place.
@@ -40,47 +62,54 @@ fn power_at(line: &[u8], at: usize) -> PowerValue
     }
 }
 
-// The power of setting c in slot s; none for standing, and past the last option and slot.
-fn power_of(line: &[u8], slots: usize, count: usize, c: usize, s: usize) -> PowerValue
-    requires { ⌜ LoadLine slots count (now line) ⌝ }
+// What standing draws in slot s.
+fn standing_power(line: &[u8], slots: usize, pairs: usize, count: usize, s: usize) -> PowerValue
+    requires { ⌜ LoadLine slots pairs count (now line) ⌝ }
+    ensures { λ r. ⌜ r ≡ powerValue (standingPower slots (now (line .entry)) s) ⌝ }
+{
+    if s < pairs {
+        return power_at(line, 4 + 8 * s);
+    }
+    PowerValue::none()
+}
+
+// The power of setting c in slot s; none past the last option and slot.
+fn power_of(line: &[u8], slots: usize, pairs: usize, count: usize, c: usize, s: usize) -> PowerValue
+    requires { ⌜ LoadLine slots pairs count (now line) ⌝ }
     ensures { λ r. ⌜ r ≡ powerValue (powerIn s (settingOf (settings slots (now (line .entry))) c)) ⌝ }
 {
-    let none = PowerValue {
-        active: 0,
-        reactive: 32768,
-    };
     if c < 1 {
-        return none;
+        return standing_power(line, slots, pairs, count, s);
     }
     if count < c {
-        return none;
+        return PowerValue::none();
     }
     if slots <= s {
-        return none;
+        return PowerValue::none();
     }
-    let at = option_start(slots, c - 1);
+    let at = option_start(slots, pairs, c - 1);
     power_at(line, at + 4 + 8 * s)
 }
 
 // |Q| > P in setting c and slot s.
-fn exceeds_at(line: &[u8], slots: usize, count: usize, c: usize, s: usize) -> bool
-    requires { ⌜ LoadLine slots count (now line) ⌝ }
+fn exceeds_at(line: &[u8], slots: usize, pairs: usize, count: usize, c: usize, s: usize) -> bool
+    requires { ⌜ LoadLine slots pairs count (now line) ⌝ }
     ensures { λ r. ⌜ r ≡ reactiveExceeds (powerIn s (settingOf (settings slots (now (line .entry))) c)) ⌝ }
 {
-    let power = power_of(line, slots, count, c, s);
+    let power = power_of(line, slots, pairs, count, c, s);
     power.active < model::distance(power.reactive, 32768)
 }
 
 // |Q| > P in some setting and slot.
-fn some_exceeds(line: &[u8], slots: usize, count: usize) -> bool
-    requires { ⌜ LoadLine slots count (now line) ⌝ }
+fn some_exceeds(line: &[u8], slots: usize, pairs: usize, count: usize) -> bool
+    requires { ⌜ LoadLine slots pairs count (now line) ⌝ }
     ensures { λ r. ⌜ r ≡ someExceeds (settings slots (now (line .entry))) ⌝ }
 {
     let mut found = false;
     let settings = count + 1;
     'settings: for c in 0..settings {
         for s in 0..slots {
-            if exceeds_at(line, slots, count, c, s) {
+            if exceeds_at(line, slots, pairs, count, c, s) {
                 found = true;
                 break 'settings;
             }
@@ -97,26 +126,27 @@ pub fn load_finding(line: &[u8], slots: usize) -> Finding
     if !hex::all_digits(line) {
         return Finding::Refused(Refusal::NotHex);
     }
-    if hex::wrong_kind(line, &[2]) {
+    if hex::wrong_kind(line, &[2, 6]) {
         return Finding::Refused(Refusal::WrongKind);
     }
     let count = hex::number(line, 2, 2);
     if hex::outside(count, 1, Book::OPTIONS as u64) {
         return Finding::Refused(Refusal::SlotsOrOptionsOutOfRange);
     }
-    let due = option_start(slots, count as usize);
+    let pairs = standing_pairs(line, slots);
+    let due = option_start(slots, pairs, count as usize);
     if line.len() != due {
         return Finding::Refused(Refusal::WrongLength);
     }
-    if some_exceeds(line, slots, count as usize) {
+    if some_exceeds(line, slots, pairs, count as usize) {
         return Finding::Refused(Refusal::ReactiveExceedsActive);
     }
     Finding::Passed
 }
 
 // The worth of setting c; 0 for standing and past the last option.
-fn worth_of(line: &[u8], slots: usize, count: usize, c: usize) -> u64
-    requires { ⌜ LoadLine slots count (now line) ⌝ }
+fn worth_of(line: &[u8], slots: usize, pairs: usize, count: usize, c: usize) -> u64
+    requires { ⌜ LoadLine slots pairs count (now line) ⌝ }
     ensures { λ r. ⌜ r ≡ settingOf (settings slots (now (line .entry))) c .worth ⌝ }
 {
     if c < 1 {
@@ -125,31 +155,32 @@ fn worth_of(line: &[u8], slots: usize, count: usize, c: usize) -> u64
     if count < c {
         return 0;
     }
-    let at = option_start(slots, c - 1);
+    let at = option_start(slots, pairs, c - 1);
     hex::number(line, at, 4)
 }
 
-fn worths_of(line: &[u8], slots: usize, count: usize) -> [u64; Load::SETTINGS]
-    requires { ⌜ LoadLine slots count (now line) ⌝ }
+fn worths_of(line: &[u8], slots: usize, pairs: usize, count: usize) -> [u64; Load::SETTINGS]
+    requires { ⌜ LoadLine slots pairs count (now line) ⌝ }
     ensures { λ r. ⌜ r ≡ map (λ c. settingOf (settings slots (now (line .entry))) c .worth) (upto mostSettings) ⌝ }
 {
     let mut worths = [0u64; Load::SETTINGS];
     for c in 0..Load::SETTINGS {
-        worths[c] = worth_of(line, slots, count, c);
+        worths[c] = worth_of(line, slots, pairs, count, c);
     }
     worths
 }
 
 // The load of a load line that is not refused.
 pub fn load_of(line: &[u8], slots: usize, count: usize) -> Load
-    requires { ⌜ LoadLine slots count (now line) ⌝ }
+    requires { ⌜ LoadLine slots (standingPairs slots (now line)) count (now line) ⌝ }
     ensures { λ r. ⌜ r ≡ loadValue (settings slots (now (line .entry))) ⌝ }
 {
-    let worths = worths_of(line, slots, count);
+    let pairs = standing_pairs(line, slots);
+    let worths = worths_of(line, slots, pairs, count);
     let mut actives = [0u64; Load::POWERS];
     let mut reactives = [0u64; Load::POWERS];
     for k in 0..Load::POWERS {
-        let power = power_of(line, slots, count, k / Book::SLOTS, k % Book::SLOTS);
+        let power = power_of(line, slots, pairs, count, k / Book::SLOTS, k % Book::SLOTS);
         actives[k] = power.active;
         reactives[k] = power.reactive;
     }

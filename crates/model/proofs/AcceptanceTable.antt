@@ -1,10 +1,11 @@
 -- The proved table: document 01's starred cases ("Trials at the bench"), the ends of M-102's range, two overloads near M-106's bound, charges (M-100),
--- orders of starting (M-101), views (M-103), and edges where a near mistake shows, as one table of facts about the definitions, with one statement covering
+-- orders of starting (M-101), views (M-103), standing loads that draw (M-104), and edges where a near mistake shows, as one table of facts about the definitions, with one statement covering
 -- it. Star n is the n-th star of document 01.
 -- Assumes nothing.
 use mathlib.Core.Path.{_≡_, refl, ap₂, _∙_}
 use mathlib.Core.Bool.{Bool, true, false, _&&_}
 use mathlib.Core.List.{List, [], _∷_, _++_, map}
+use mathlib.Core.Option.{Option, none, some}
 use Prim.Native.Nat.{ℕ, suc, _+_, _*_, _-_}
 use Prim.Native.String.{String, [] as ε, _∷_ as _⸬_}
 use Prim.Native.Char.{code}
@@ -18,13 +19,13 @@ use Rattle.model.specs.Lists.{upto, all, any, concat, sameLists}
 use Rattle.model.specs.Frames.{isDigit, digitValue, digit, valueFrom, field, digits, signed, unsigned, lineLength}
 use Rattle.model.specs.Refusals.{Result, refused, done, numberOf, first}
 use Rattle.model.specs.Answers.{Output, answerOf}
-use Rattle.model.specs.Book.{Problem, optionStart, headerRules, someExceeds, loadRules, readLoads, readBook}
-use Rattle.model.specs.Choice.{square}
+use Rattle.model.specs.Book.{Problem, standingPairs, optionStart, standingPower, headerRules, someExceeds, loadRules, readLoads, readBook}
+use Rattle.model.specs.Choice.{Choice, square}
 use Rattle.model.specs.Grid.{stepFor, slotsOf, floorDiv, bestAdmitted, plan}
 use Rattle.model.specs.Trials.{cells, sameℤ, reachedCount, trialsUpto, trials}
 use Rattle.model.specs.Sheet.{lf, numbersOf, firstLine, sumsAndLimits, slotLine, slotLines, sheetBytes}
-use Rattle.model.specs.Calls.{sizeRules, fittingBook, choiceOr, planSheet, plannerResult}
-use Rattle.model.specs.Quick.{optionOne, sizeOf, takeIfFits, quickChoice, quickSheet, quickResult}
+use Rattle.model.specs.Calls.{sizeRules, fittingBook, planSheet, plannerResult}
+use Rattle.model.specs.Quick.{optionOne, sizeOf, takeIfFits, quickChoice, quickRules, quickSheet, quickResult}
 use Rattle.model.specs.Program.{refusalLine, printed, programOutput}
 use Rattle.model.specs.Demand.{apparentSquaredIn, closerBound}
 use Rattle.model.specs.Rounding.{floorBySum}
@@ -80,9 +81,13 @@ readWith test book = passes (readBook (bytesOf book))
     passes (refused r number) = false
     passes (done b) = test b
 
--- the test holds of d, S and the plan's P² + Q², in each slot
+-- there is a plan, and the test holds of d, S and its P² + Q², in each slot
 abbrev inSlots : (ℕ → ℕ → ℕ → Bool) → Problem → Bool
-inSlots test b = all (λ s. test (b .fineness) (s .limit) (apparentSquaredIn (s .place) (choiceOr (plan b)))) (slotsOf b)
+inSlots test b = ofPlan (plan b)
+  where
+    ofPlan : Option Choice → Bool
+    ofPlan none = false
+    ofPlan (some c) = all (λ s. test (b .fineness) (s .limit) (apparentSquaredIn (s .place) c)) (slotsOf b)
 
 -- what `overloads` says of a slot, of d, S and z = P² + Q²
 abbrev nearBound : ℕ → ℕ → ℕ → Bool
@@ -230,6 +235,64 @@ planRows =
     ∷ prints "01010101000000640064\n020100010004FFFB\n" "FF070002\n"
     ∷ []
 
+-- M-104: load 1 draws (3, 0) where it runs; load 2 stands at (8, 0) and runs at (4, 0); and the sheet on which both stand
+abbrev heaters : String
+heaters = "0101020500000064000A\n0201000500030000\n060100080000000500040000\n"
+
+abbrev heatersSheet : List ℕ
+heatersSheet = bytesOf "0400000000000000000000\n050000000800000000000A\n"
+
+-- two loads that stand at (11, 0), where the limit is 10, and run at (11, 0); the trials are 2, the budget is 2
+abbrev overloaded : String
+overloaded = "0101020A00000002000A\n0601000B00000005000B0000\n0601000B00000005000B0000\n"
+
+-- one load that stands at (11, 0), where the limit is 10, and runs at (6, 0) with no worth
+abbrev running : String
+running = "0101010A00000064000A\n0601000B0000000000060000\n"
+
+-- the quick planner, in a buffer of so many bytes
+abbrev quickIn : List ℕ → List ℕ → ℕ → Result Output
+quickIn book sheet room = quickResult book room
+
+-- of standing loads that draw (M-104)
+unfoldable pub standingRows : List Row
+standingRows =
+    -- the line's length by its kind: a `06` line as long as a `02` line, and the other way round
+    prints "0101010A00000064000A\n0601000500050005\n" "FF050002\n"
+    ∷ prints "0101010A00000064000A\n020100080000000500040000\n" "FF050002\n"
+    -- 7 covers the standing pair: |Q| = P is read, |Q| = P + 1 is refused
+    ∷ reads "0101010A00000064000A\n060100040004000500040000\n"
+    ∷ prints "0101010A00000064000A\n060100040005000500040000\n" "FF070002\n"
+    -- a header line is no load line, and a load line no header
+    ∷ prints "0601010A00000064000A\n0201000500050005\n" "FF030001\n"
+    ∷ prints "0101010A00000064000A\n0101000500050005\n" "FF030002\n"
+    -- all standing is over the limit, and so is every choice: no pair has a ≤ R after load 1, H(1) = 0, and 17 is given
+    ∷ tries overloaded (2 ∷ 0 ∷ [])
+    ∷ prints overloaded "FF110000\n"
+    -- the same with one trial less in the budget: 12 comes before 17
+    ∷ prints "0101020A00000001000A\n0601000B00000005000B0000\n0601000B00000005000B0000\n" "FF0C0000\n"
+    -- the quick planner: 11 comes before 17
+    ∷ shows quickIn (bytesOf overloaded) [] 46 (17 ∷ 0 ∷ 0 ∷ 0 ∷ 0 ∷ []) "FF110000\n"
+    ∷ shows quickIn (bytesOf overloaded) [] 45 (11 ∷ 0 ∷ 0 ∷ 0 ∷ 0 ∷ []) "FF0B0000\n"
+    -- the only admitted choice runs the load, as its standing pair is larger; the quick planner begins with all standing, and gives 17
+    ∷ prints running "04000000000000000201\n050000000600000000000A\n"
+    ∷ quickPrints running "FF110000\n"
+    -- "A load once passed over is never tried again": beside load 2, which stands at (8, 0), load 1 does not fit; once load 2 runs it would, and it runs
+    -- in the plan
+    ∷ quickPrints heaters "0400000005000000020001\n050000000400000000000A\n"
+    ∷ prints heaters "040000000A000000060101\n050000000700000000000A\n"
+    -- document 01's book with `06` lines of zeros: its sheets
+    ∷ prints "0101030400000064000A\n060100000000000500050005\n06010000000000050004FFFC\n060100000000000400040000\n"
+    "040000000A0000000E010100\n050000000900000001000A\n"
+    ∷ quickPrints "0101030400000064000A\n060100000000000500050005\n06010000000000050004FFFC\n060100000000000400040000\n"
+    "040000000900000003000101\n0500000008FFFFFFFC000A\n"
+    -- the sums of a sheet count standing pairs, in the charge and in the supply company's view; a load that stands so is no running load
+    ∷ charges (bytesOf heaters) heatersSheet (20 ∷ []) (0 ∷ 0 ∷ 4 ∷ [])
+    ∷ charges (bytesOf heaters) (bytesOf "0400000000000000000000\n050000000000000000000A\n") (20 ∷ []) (13 ∷ 0 ∷ 0 ∷ [])
+    ∷ shows supplyResult (bytesOf heaters) heatersSheet 23 (0 ∷ 0 ∷ 23 ∷ 0 ∷ 0 ∷ []) "050000000800000000000A\n"
+    ∷ shows millResult (bytesOf heaters) heatersSheet 11 (0 ∷ 0 ∷ 11 ∷ 0 ∷ 0 ∷ []) "0900000000\n"
+    ∷ []
+
 -- of sheets: charges, orders of starting and views, the longest book last
 unfoldable pub sheetRows : List Row
 sheetRows =
@@ -293,18 +356,27 @@ sheetRows =
 
 plan-rows-hold : all holds planRows ≡ true
 unfolding holds planRows programOutput refusalLine plannerResult planSheet fittingBook sizeRules
-    readBook readLoads headerRules loadRules someExceeds optionStart first isDigit digitValue digit valueFrom field digits signed unsigned lineLength
-    slotsOf plan bestAdmitted cells trials reachedCount sheetBytes firstLine slotLines sumsAndLimits slotLine numbersOf quickResult quickSheet quickChoice takeIfFits sizeOf optionOne
+    readBook readLoads headerRules loadRules someExceeds standingPairs optionStart standingPower first isDigit digitValue digit valueFrom field digits signed unsigned lineLength
+    slotsOf plan bestAdmitted cells trials reachedCount sheetBytes firstLine slotLines sumsAndLimits slotLine numbersOf quickResult quickSheet quickRules quickChoice takeIfFits sizeOf optionOne
 plan-rows-hold = refl
+
+standing-rows-hold : all holds standingRows ≡ true
+unfolding holds standingRows programOutput refusalLine plannerResult planSheet fittingBook sizeRules
+    readBook readLoads headerRules loadRules someExceeds standingPairs optionStart standingPower first isDigit digitValue digit valueFrom field digits signed unsigned lineLength
+    slotsOf plan bestAdmitted cells trials reachedCount sheetBytes firstLine slotLines sumsAndLimits slotLine numbersOf quickResult quickSheet quickRules quickChoice takeIfFits sizeOf optionOne
+    sheetChoice chargeResult sheetCharge choiceCharge chargeOf rounded accepted shown runningLoads numberAndLevel millLine millResult supplyView supplyResult
+standing-rows-hold = refl
 
 sheet-rows-hold : all holds sheetRows ≡ true
 unfolding holds sheetRows refusalLine
-    readBook readLoads headerRules loadRules someExceeds optionStart first isDigit digitValue digit valueFrom field digits signed unsigned lineLength
+    readBook readLoads headerRules loadRules someExceeds standingPairs optionStart standingPower first isDigit digitValue digit valueFrom field digits signed unsigned lineLength
     sheetBytes firstLine slotLines sumsAndLimits slotLine numbersOf sheetChoice
     chargeResult sheetCharge choiceCharge chargeOf rounded
     accepted shown runningLoads numberAndLevel millLine millResult supplyView supplyResult
     orderResult sheetsOrder loadsOrder starting runningMask andNot startCount wrongNames someBlocked left ready startNext startedAfter startOrder ones onesIn
 sheet-rows-hold = refl
 
-pub table-holds : all holds (planRows ++ sheetRows) ≡ true
-table-holds = all-join holds planRows sheetRows ∙ ap₂ _&&_ plan-rows-hold sheet-rows-hold
+pub table-holds : all holds (planRows ++ standingRows ++ sheetRows) ≡ true
+table-holds =
+    all-join holds (planRows ++ standingRows) sheetRows
+    ∙ ap₂ _&&_ (all-join holds planRows standingRows ∙ ap₂ _&&_ plan-rows-hold standing-rows-hold) sheet-rows-hold

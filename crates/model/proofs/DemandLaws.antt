@@ -2,7 +2,7 @@
 -- Assumes nothing.
 use mathlib.Core.Path.{_≡_, refl, sym, ap, _∙_, subst}
 use mathlib.Core.List.{List, [], _∷_, _++_}
-use mathlib.Core.Option.{some}
+use mathlib.Core.Option.{Option, none, some}
 use Prim.Native.Nat.{ℕ, zero, suc, _+_, _*_, _-_, _^_, _/_, _<_, _≤_, max}
 use native.Mathlib.Nat.{le-trans, le-max-left, mul-le-mul-left, mul-le-mul-right, div-mul-le-self, div-lt-iff-lt-mul, mul-zero, add-zero, zero-add, le-of-suc-le-suc}
 use native.Mathlib.Decide.{decLe}
@@ -12,7 +12,7 @@ use lib.Dec as Dec
 use lib.IntN.{ℤ, pos, natAbs, _+ℤ_}
 use lib.ListN.{length, getD, drop}
 use borrow.Author.Tests.{le-ltb}
-use Rattle.model.specs.declared.Refusal.the-variants.{BudgetExceeded}
+use Rattle.model.specs.declared.Refusal.the-variants.{BudgetExceeded, NoPlan}
 use Rattle.model.specs.declared.Finding.the-variants.{Passed}
 use Rattle.model.specs.Lists.{Mem, Every}
 use Rattle.model.specs.Refusals.{Result, refused, done, Rule, _⇒_, first, checked, andThen}
@@ -21,18 +21,18 @@ use Rattle.model.specs.Choice.{Choice, IsChoice, noSetting, worthOf, sum
 use Rattle.model.specs.Grid.{Slot, stepFor, slotsFrom, slotsOf, keepsLimits, gridIn, spreadOf, times, Admissible, admits, admitted, plan}
 use Rattle.model.specs.Trials.{cells, neededWords, trials}
 use Rattle.model.specs.Sheet.{sheetOf, sheetBytes, sheetLength}
-use Rattle.model.specs.Calls.{sizeRules, fittingBook, choiceOr, planSheet, plannerResult}
+use Rattle.model.specs.Calls.{sizeRules, fittingBook, planned, planSheet, plannerResult}
 use Rattle.model.specs.Demand.{apparentSquaredIn, S, T, N, CloserOverload, Demand3}
 use Rattle.model.specs.Valid.{SettingSmall, ValidBook}
 use Rattle.model.specs.Answers.{Output, answerOf, bufferAfter}
 use Rattle.model.specs.Bounds.{mostCells}
 use Rattle.model.proofs.ListLaws.{both, each, every-mem}
 use Rattle.model.proofs.UptoLaws.{suc-across}
-use Rattle.model.proofs.RefusalLaws.{done-same, checked-done, then-done, NoneApplies, first-passed, first-none, number-some}
+use Rattle.model.proofs.RefusalLaws.{refused-done, done-same, checked-done, then-done, NoneApplies, first-passed, number-some}
 use Rattle.model.proofs.ChoiceLaws.{choice-every, worth-most}
 use Rattle.model.proofs.AdmissionLaws.{square-abs, abs-offset, of-admits, Rounded, rounded-choice}
 use Rattle.model.proofs.PlanLaws.{plan-sound, plan-worth, chosen-length}
-use Rattle.model.proofs.ValidLaws.{book-valid, plan-some}
+use Rattle.model.proofs.ValidLaws.{book-valid}
 use Rattle.model.proofs.SheetLaws.{worth-on, numbers-on, numbers-small}
 use Rattle.model.proofs.Squares.{sq-mono}
 use Rattle.model.proofs.Overload as Overload
@@ -203,9 +203,10 @@ fitting-read book words room b e =
     let same : y .0 ≡ b = done-same (y .0) b (z .1) in
     (y .1 ∙ z .1, first-passed (sizeRules b words room) (subst (λ (a : Problem). first (sizeRules a words room) ≡ Passed) same (z .0)))
 
--- the rule that follows the search
-abbrev budgetRules : Problem → List Rule
-budgetRules b = (ltb (b .budget) (trials b) ⇒ BudgetExceeded) ∷ []
+-- where a plan was asked for, there is one
+planned-done : {A : Type 0} (m : Option Choice) (f : Choice → Result A) (x : A) → andThen (planned m) f ≡ done x → (c : Choice) × (m ≡ some c) × (f c ≡ done x)
+planned-done none f x e = absurd (refused-done NoPlan 0 x e)
+planned-done (some c) f x e = (c, refl, e)
 
 -- what a sheet of the planner is
 pub planned-sheet : (book : List ℕ) (words room : ℕ) (s : Output) → plannerResult book words room ≡ done s
@@ -214,12 +215,10 @@ unfolding plannerResult planSheet
 planned-sheet book words room s e =
     let x : (b : Problem) × (fittingBook book words room ≡ done b) × (planSheet b ≡ done s) = then-done (fittingBook book words room) planSheet s e in
     let b : Problem = x .0 in
-    let reads : readBook book ≡ done b = fitting-read book words room b (x .1) .0 in
-    let d : (c : Choice) × (plan b ≡ some c) = plan-some b (book-valid book b reads) in
-    let w : sheetOf b (choiceOr (plan b)) (trials b) ≡ s
-    = done-same (sheetOf b (choiceOr (plan b)) (trials b)) s
-    (checked-done 0 (first (budgetRules b)) (done (sheetOf b (choiceOr (plan b)) (trials b))) s (x .2) .1) in
-    (b, d .0, reads, d .1, sym w ∙ ap (λ m. sheetOf b (choiceOr m) (trials b)) (d .1))
+    let sheet : Choice → Result Output = λ c. done (sheetOf b c (trials b)) in
+    let d : (c : Choice) × (plan b ≡ some c) × (sheet c ≡ done s)
+    = planned-done (plan b) sheet s (checked-done 0 (first ((ltb (b .budget) (trials b) ⇒ BudgetExceeded) ∷ [])) (andThen (planned (plan b)) sheet) s (x .2) .1) in
+    (b, d .0, fitting-read book words room b (x .1) .0, d .1, sym (done-same (sheetOf b (d .0) (trials b)) s (d .2)))
 
 -- DEMAND 3 of the call: whenever the answer has number 0
 pub demand3 : (book : List ℕ) (words : ℕ) (before : List ℕ) → answerOf (plannerResult book words (length before)) .number ≡ 0
@@ -233,16 +232,3 @@ demand3 book words before e = go (plannerResult book words (length before)) refl
         = planned-sheet book words (length before) s q in
         subst (λ (y : Output). Demand3 book (bufferAfter (done y) before)) (sym (x .4))
         (sheet-demand3 book (x .0) (x .1) (trials (x .0)) (drop (length (sheetBytes (x .0) (x .1) (trials (x .0)))) before) (x .2) (x .3))
-
--- "The planner answers a book with a sheet whenever no refusal applies": none of 1 to 8, and none of 9 to 12
-pub answers : (book : List ℕ) (words room : ℕ) (b : Problem) → readBook book ≡ done b
-    → cells b ≤ mostCells → neededWords b ≤ words → sheetLength b ≤ room → trials b ≤ b .budget
-    → answerOf (plannerResult book words room) .number ≡ 0
-unfolding plannerResult fittingBook planSheet sizeRules
-answers book words room b e few wide long enough =
-    ap (λ x. answerOf (andThen (andThen x (λ a. checked 0 (first (sizeRules a words room)) (done a))) planSheet) .number) e
-    ∙ ap (λ f. answerOf (andThen (checked 0 f (done b)) planSheet) .number)
-    (first-none (sizeRules b words room)
-    (le-ltb mostCells (cells b) few, (le-ltb words (neededWords b) wide, (le-ltb room (sheetLength b) long, tt))))
-    ∙ ap (λ f. answerOf (checked 0 f (done (sheetOf b (choiceOr (plan b)) (trials b)))) .number)
-    (first-none (budgetRules b) (le-ltb (b .budget) (trials b) enough, tt))

@@ -22,6 +22,7 @@ pub mod SheetLaws
 pub mod CodeLaws
 pub mod QuickLaws
 pub mod DemandLaws
+pub mod AnsweredLaws
 pub mod ValueLaws
 pub mod RaisedLaws
 pub mod SumLaws

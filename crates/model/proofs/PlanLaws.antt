@@ -13,7 +13,7 @@ use lib.ListN.{length}
 use Rattle.model.specs.Lists.{Mem, Every, keep}
 use Rattle.model.specs.Book.{Setting, Settings, Problem}
 use Rattle.model.specs.Choice.{Choice, IsChoice, choices, withEach, worthOf}
-use Rattle.model.specs.Grid.{Slot, slotsOf, keepsLimits, admitted, better, betterOf, best, bestAdmitted, plan, IsPlan}
+use Rattle.model.specs.Grid.{Slot, slotsOf, keepsLimits, gridIn, Admissible, admitted, better, betterOf, best, bestAdmitted, plan, IsPlan}
 use Rattle.model.specs.Cells.{Key, beats, betterKey, join, bestKey, choiceKey}
 use Rattle.model.proofs.ListLaws.{every-imp, every-keep, every-kept, every-append, every-left, every-right}
 use Rattle.model.proofs.KeyLaws.{Versus, versus, less, tie-more, not-trans, not-both}
@@ -189,6 +189,17 @@ plan-is b c e =
           not-better (choiceKey other) (choiceKey c) (better other c) (versus (choiceKey other) (choiceKey c))
           (plan-best (slotsOf b) (b .loads) c e other m (admitted-is (slotsOf b) other .1 h));
     }
+
+-- where there is no plan, no choice is admitted
+pub plan-none : (b : Problem) → plan b ≡ none → (c : Choice) → IsChoice (b .loads) c → Every (λ s. Admissible s (gridIn s c)) (slotsOf b) → ⊥
+unfolding plan bestAdmitted
+plan-none b e c m h =
+    chosen-in (b .loads) (λ x. T (admitted (slotsOf b) x) → ⊥) c m
+    (every-kept (λ x. ⊥) (admitted (slotsOf b)) (choices (b .loads))
+    (every-unmap (λ x. ⊥) (keep (admitted (slotsOf b)) (choices (b .loads)))
+    (best-key-none (map choiceKey (keep (admitted (slotsOf b)) (choices (b .loads))))
+    (sym (best-key (keep (admitted (slotsOf b)) (choices (b .loads)))) ∙ ap key? e))))
+    (admitted-is (slotsOf b) c .1 h)
 
 -- THE WORTH: a choice whose true sums keep every limit is worth no more than the plan
 pub plan-worth : (b : Problem) (d : Choice) → plan b ≡ some d

@@ -1,12 +1,12 @@
--- The table of refusals: what a result that came through it tells, and that no refusal has number 0.
+-- The table of refusals: what a result that came through it tells, that no refusal has number 0, and which number it has at most.
 -- Assumes nothing.
 use mathlib.Core.Path.{_≡_, refl, sym, ap, _∙_, subst}
 use mathlib.Core.Bool.{Bool, true, false, cond}
 use mathlib.Core.List.{List, [], _∷_}
-use Prim.Native.Nat.{ℕ}
+use Prim.Native.Nat.{ℕ, _≤_}
 use native.Mathlib.Omega.{arith}
 use Rattle.model.specs.declared.Refusal.{Refusal}
-use Rattle.model.specs.declared.Refusal.the-variants.{Unterminated, NotHex, WrongKind, SlotsOrOptionsOutOfRange, WrongLength, LoadsOrFinenessOutOfRange, ReactiveExceedsActive, TrailingBytes, TooManyCells, WorkTooSmall, BufferTooSmall, BudgetExceeded, ForeignSheet, WrongPriceCount, WrongNames, NamedLoadStands}
+use Rattle.model.specs.declared.Refusal.the-variants.{Unterminated, NotHex, WrongKind, SlotsOrOptionsOutOfRange, WrongLength, LoadsOrFinenessOutOfRange, ReactiveExceedsActive, TrailingBytes, TooManyCells, WorkTooSmall, BufferTooSmall, BudgetExceeded, ForeignSheet, WrongPriceCount, WrongNames, NamedLoadStands, NoPlan}
 use Rattle.model.specs.declared.Finding.{Finding}
 use Rattle.model.specs.declared.Finding.the-variants.{Passed, Refused}
 use Rattle.model.specs.Lists.{Every}
@@ -48,6 +48,9 @@ IsPassed (Refused r) = ⊥
 refused-passed : (r : Refusal) → Path Finding (Refused r) Passed → ⊥
 unfolding IsPassed
 refused-passed r e = subst IsPassed (sym e) tt
+
+refused-same : (r s : Refusal) → Path Finding (Refused r) (Refused s) → r ≡ s
+refused-same r s e = cc
 
 pub first-passed : (rs : List Rule) → first rs ≡ Passed → NoneApplies rs
 unfolding first
@@ -96,3 +99,36 @@ number-some ForeignSheet e = omega arith
 number-some WrongPriceCount e = omega arith
 number-some WrongNames e = omega arith
 number-some NamedLoadStands e = omega arith
+number-some NoPlan e = omega arith
+
+-- a refusal, where there is one, has a number of at most n
+module _ (n : ℕ) where
+  -- each row's refusal has
+  abbrev pub RulesMost : List Rule → Type 0
+  RulesMost rs = Every (λ x. numberOf (x .refusal) ≤ n) rs
+
+  abbrev pub NumberMost : {A : Type 0} → Result A → Type 0
+  NumberMost (refused r line) = numberOf r ≤ n
+  NumberMost (done x) = Unit {0}
+
+  pub first-most : (rs : List Rule) (r : Refusal) → RulesMost rs → first rs ≡ Refused r → numberOf r ≤ n
+  unfolding first
+  first-most [] r h e = absurd (refused-passed r (sym e))
+  first-most (x ∷ rs) r h e = go (x .applies) e (first-most rs r (h .1))
+    where
+      go : (t : Bool) → cond t (Refused (x .refusal)) (first rs) ≡ Refused r → (first rs ≡ Refused r → numberOf r ≤ n) → numberOf r ≤ n
+      go true q rest = subst (λ y. numberOf y ≤ n) (refused-same (x .refusal) r q) (h .0)
+      go false q rest = rest q
+
+  module _ {A : Type 0} where
+    pub checked-most : (line : ℕ) (rs : List Rule) (x : Result A) → RulesMost rs → NumberMost x → NumberMost (checked line (first rs) x)
+    checked-most line rs x h k = go (first rs) (first-most rs)
+      where
+        go : (f : Finding) → ((r : Refusal) → RulesMost rs → f ≡ Refused r → numberOf r ≤ n) → NumberMost (checked line f x)
+        go Passed q = k
+        go (Refused r) q = q r h refl
+
+  module _ {A B : Type 0} where
+    pub then-most : (x : Result A) (f : A → Result B) → NumberMost x → ((a : A) → NumberMost (f a)) → NumberMost (andThen x f)
+    then-most (refused r line) f h k = h
+    then-most (done a) f h k = k a

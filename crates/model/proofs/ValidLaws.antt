@@ -1,38 +1,27 @@
--- What a book that was read is known to have: its counts and sizes, |Q| ≤ P, and a first setting of no power; so a plan always exists.
+-- What a book that was read is known to have: its counts and sizes, and |Q| ≤ P in every setting; and that no refusal of the reader has a number above 8.
 -- Assumes nothing.
-use mathlib.Core.Path.{_≡_, refl, sym, ap, ap₂, _∙_, subst}
-use mathlib.Core.Bool.{false, true, cond, _&&_}
-use mathlib.Core.Logic.{inl}
+use mathlib.Core.Path.{_≡_, refl, sym, ap, _∙_, subst}
+use mathlib.Core.Bool.{Bool, false, true, cond, _&&_}
 use mathlib.Core.List.{List, [], _∷_, map}
-use mathlib.Core.Option.{Option, none, some, Option·some-ne-none}
 use Prim.Native.Nat.{ℕ, zero, suc, _+_, _*_, _<_, _≤_}
 use native.Mathlib.Omega.{arith}
-use lib.Dec.{T, leb, le→leb}
+use lib.Dec.{ltb}
 use lib.IntN.{natAbs}
-use lib.ListN.{length}
+use lib.ListN.{length, getD}
 use borrow.Author.Tests.{ltb-false, not-false}
 use Rattle.model.specs.declared.Finding.the-variants.{Passed}
-use Rattle.model.specs.Lists.{within, uptoFrom, upto, any, Every, keep}
+use Rattle.model.specs.Lists.{within, uptoFrom, upto, any, Every}
 use Rattle.model.specs.Bounds.{mostLoads, mostFineness}
 use Rattle.model.specs.Frames.{field, lineOf, afterLine}
 use Rattle.model.specs.Refusals.{Result, done, first, andThen}
-use Rattle.model.specs.Book.{noPower, Setting, Settings, Problem, slotCount, loadCount, finenessIn, problem, optionCount, optionStart, powerAt, optionAt, options, standing, settings, lineRule, headerRules, reactiveExceeds, someExceeds, loadRules, endRules, readLoads, readBook}
-use Rattle.model.specs.Choice.{Choice, IsChoice, choices, powerIn, sumIn, plus, square, apparentSquared, firstSetting}
-use Rattle.model.specs.Grid.{Slot, slotsOf, keepsLimits, admitted, betterOf, better, best, bestAdmitted, plan}
-use Rattle.model.specs.Valid.{SettingKept, Idle, Numbered, Labelled, SettingSmall, ValidLoads, ValidBook}
-use Rattle.model.proofs.ListLaws.{each, both-true, within-is, every-imp, every-image, every-getD, every-kept, any-false}
+use Rattle.model.specs.Book.{Power, noPower, Setting, Settings, Problem, slotCount, loadCount, finenessIn, problem, optionCount, standingPairs, optionStart, powerAt, optionAt, options, standingPower, settings, lineRule, headerRules, reactiveExceeds, someExceeds, loadRules, endRules, readLoads, readBook}
+use Rattle.model.specs.Valid.{SettingKept, Numbered, Labelled, SettingSmall, ValidLoads, ValidBook}
+use Rattle.model.proofs.ListLaws.{both-true, within-is, every-imp, every-image, every-getD, any-false}
 use Rattle.model.proofs.UptoLaws.{length-upto}
 use Rattle.model.proofs.FrameLaws.{field-below, signed-small}
-use Rattle.model.proofs.RefusalLaws.{done-same, checked-done, then-done, NoneApplies, first-passed}
-use Rattle.model.proofs.ChoiceLaws.{plus-none}
-use Rattle.model.proofs.AdmissionLaws.{slots-for, keeps-admitted}
-use Rattle.model.proofs.PlanLaws.{chosen-in, chosen-length}
+use Rattle.model.proofs.RefusalLaws.{done-same, checked-done, then-done, NoneApplies, first-passed, RulesMost, NumberMost, checked-most, then-most}
 
 -- ---- the settings that a line gives
-
-standing-power : (t slot : ℕ) → powerIn slot (standing t) ≡ noPower
-standing-power t slot =
-    every-getD (λ x. x ≡ noPower) (standing t .powers) noPower refl (every-image (λ x. x ≡ noPower) (λ (s : ℕ). noPower) (upto t) (λ s. refl)) slot
 
 kept-setting : (v : Setting) → Every (λ x. reactiveExceeds x ≡ false) (v .powers) → SettingKept 1 v
 kept-setting v h =
@@ -51,7 +40,7 @@ numbered-options f h i (suc n) = (h i, numbered-options f h (suc i) n)
 
 -- option j + 1 of a line
 abbrev optionOn : ℕ → List ℕ → ℕ → Setting
-optionOn t line j = optionAt t line (suc j) (optionStart t j)
+optionOn t line j = optionAt t line (suc j) (optionStart t (standingPairs t line) j)
 
 labelled-settings : (t : ℕ) (line : List ℕ) → within 1 3 (optionCount line) ≡ true → Labelled (settings t line)
 labelled-settings t line e =
@@ -65,36 +54,47 @@ labelled-settings t line e =
 
 pub sized-settings : (t : ℕ) (line : List ℕ) → Every (λ v. length (v .powers) ≡ t) (settings t line)
 sized-settings t line = (
-  length-upto (λ s. noPower) t,
+  length-upto (standingPower t line) t,
   every-image (λ v. length (v .powers) ≡ t) (optionOn t line) (upto (optionCount line))
-      (λ j. length-upto (λ s. powerAt line (optionStart t j + 4 + 8 * s)) t),
+      (λ j. length-upto (λ s. powerAt line (optionStart t (standingPairs t line) j + 4 + 8 * s)) t),
 )
 
-small-option : (t : ℕ) (line : List ℕ) (c at : ℕ) → SettingSmall (optionAt t line c at)
-small-option t line c at =
-    record {
-      worth = field-below line at 4;
-      active = every-getD (λ x. x .p < 65536) (optionAt t line c at .powers) noPower (omega arith)
-          (every-image (λ x. x .p < 65536) (λ s. powerAt line (at + 4 + 8 * s)) (upto t) (λ s. field-below line (at + 4 + 8 * s) 4));
-      reactive = every-getD (λ x. natAbs (x .q) ≤ 32768) (optionAt t line c at .powers) noPower (omega arith)
-          (every-image (λ x. natAbs (x .q) ≤ 32768) (λ s. powerAt line (at + 4 + 8 * s)) (upto t)
-          (λ s. signed-small (field line (at + 4 + 8 * s + 4) 4) (field-below line (at + 4 + 8 * s + 4) 4)));
-    }
+-- a power on a line is small, and so is none
+record Small (x : Power) : Type 0 where
+  pub active : x .p < 65536
+  pub reactive : natAbs (x .q) ≤ 32768
+
+small-none : Small noPower
+small-none = record { active = omega arith; reactive = omega arith }
+
+small-at : (line : List ℕ) (at : ℕ) → Small (powerAt line at)
+small-at line at = record { active = field-below line at 4; reactive = signed-small (field line (at + 4) 4) (field-below line (at + 4) 4) }
+
+small-setting : (c w : ℕ) (f : ℕ → Power) (t : ℕ) → w < 65536 → ((s : ℕ) → Small (f s)) → SettingSmall (record { number = c; worth = w; powers = map f (upto t) })
+small-setting c w f t h k =
+    let each : (slot : ℕ) → Small (getD (map f (upto t)) slot noPower) = every-getD Small (map f (upto t)) noPower small-none (every-image Small f (upto t) k) in
+    record { worth = h; active = λ slot. each slot .active; reactive = λ slot. each slot .reactive }
+
+small-standing : (t : ℕ) (line : List ℕ) (s : ℕ) → Small (standingPower t line s)
+unfolding standingPower
+small-standing t line s = go (ltb s (standingPairs t line))
+  where
+    go : (b : Bool) → Small (cond b (powerAt line (4 + 8 * s)) noPower)
+    go true = small-at line (4 + 8 * s)
+    go false = small-none
 
 pub small-settings : (t : ℕ) (line : List ℕ) → Every SettingSmall (settings t line)
 small-settings t line = (
-  record {
-    worth = omega arith;
-    active = λ slot. subst (λ x. x .p < 65536) (sym (standing-power t slot)) (omega arith);
-    reactive = λ slot. subst (λ x. natAbs (x .q) ≤ 32768) (sym (standing-power t slot)) (omega arith);
-  },
-  every-image SettingSmall (optionOn t line) (upto (optionCount line)) (λ j. small-option t line (suc j) (optionStart t j)),
+  small-setting 0 0 (standingPower t line) t (omega arith) (small-standing t line),
+  every-image SettingSmall (optionOn t line) (upto (optionCount line))
+      (λ j. let at = optionStart t (standingPairs t line) j in
+      small-setting (suc j) (field line at 4) (λ s. powerAt line (at + 4 + 8 * s)) t (field-below line at 4) (λ s. small-at line (at + 4 + 8 * s))),
 )
 
 -- ---- the loads
 
 good-none : (t : ℕ) → ValidLoads 0 t []
-good-none t = record { count = refl; keeps = tt; idle = tt; labels = tt; powers = tt; small = tt }
+good-none t = record { count = refl; keeps = tt; labels = tt; powers = tt; small = tt }
 
 good-more : (n t : ℕ) (line : List ℕ) (loads : List Settings) → NoneApplies (loadRules t line) → ValidLoads n t loads → ValidLoads (suc n) t (settings t line ∷ loads)
 unfolding loadRules
@@ -102,7 +102,6 @@ good-more n t line loads rules g =
     record {
       count = ap suc (g .count);
       keeps = (kept-settings (settings t line) (rules .1 .1 .1 .1 .0), g .keeps);
-      idle = (standing-power t, g .idle);
       labels = (labelled-settings t line (not-false (within 1 3 (optionCount line)) (rules .1 .1 .0)), g .labels);
       powers = (sized-settings t line, g .powers);
       small = (small-settings t line, g .small);
@@ -182,47 +181,30 @@ module _ (bytes : List ℕ) (b : Problem) (e : readBook bytes ≡ done b) where
             (every-image (λ s. s < 65536) (λ s. field line (16 + 4 * s) 4) (upto (slotCount line)) (λ s. field-below line (16 + 4 * s) 4));
       }
 
--- ---- all standing is admitted, so there is a plan
+-- ---- the reader's refusals are 1 to 8
 
-idle-choice : (loads : List Settings) → Every Idle loads → IsChoice loads (map firstSetting loads)
-idle-choice [] h = tt
-idle-choice ([] ∷ loads) h = absurd (h .0)
-idle-choice ((v ∷ vs) ∷ loads) h = (inl refl, idle-choice loads (h .1))
+load-rules-most : (t : ℕ) (line : List ℕ) → RulesMost 8 (loadRules t line)
+unfolding loadRules
+load-rules-most t line = (omega arith, (omega arith, (omega arith, (omega arith, (omega arith, tt)))))
 
-idle-sum : (loads : List Settings) → Every Idle loads → (slot : ℕ) → sumIn slot (map firstSetting loads) ≡ noPower
-idle-sum [] h slot = refl
-idle-sum ([] ∷ loads) h slot = absurd (h .0)
-idle-sum ((v ∷ vs) ∷ loads) h slot = ap₂ plus (h .0 slot) (idle-sum loads (h .1) slot) ∙ plus-none noPower
+header-rules-most : (line : List ℕ) → RulesMost 8 (headerRules line)
+unfolding headerRules
+header-rules-most line = (omega arith, (omega arith, (omega arith, (omega arith, (omega arith, tt)))))
 
-idle-keeps : (loads : List Settings) → Every Idle loads → (slots : List Slot) → T (keepsLimits slots (map firstSetting loads))
-idle-keeps loads h [] = tt
-idle-keeps loads h (s ∷ slots) =
-    each (leb (apparentSquared (sumIn (s .place) (map firstSetting loads))) (square (s .limit))) (keepsLimits slots (map firstSetting loads))
-    (subst (λ x. T (leb (apparentSquared x) (square (s .limit)))) (sym (idle-sum loads h (s .place))) (le→leb 0 (square (s .limit)) (omega arith)))
-    (idle-keeps loads h slots)
+loads-most : (t left number : ℕ) (bytes : List ℕ) → NumberMost 8 (readLoads t left number bytes)
+unfolding readLoads
+loads-most t zero number bytes = checked-most 8 number (endRules bytes) (done []) (omega arith, tt) tt
+loads-most t (suc left) number bytes =
+    let rest : Result (List Settings) = readLoads t left (suc number) (afterLine bytes) in
+    let more : List Settings → Result (List Settings) = λ ls. done (settings t (lineOf bytes) ∷ ls) in
+    checked-most 8 number (lineRule bytes ∷ loadRules t (lineOf bytes)) (andThen rest more) (omega arith, load-rules-most t (lineOf bytes))
+    (then-most 8 rest more (loads-most t left (suc number) (afterLine bytes)) (λ ls. tt))
 
-best-none : (cs : List Choice) → best cs ≡ none → Every (λ c. ⊥) cs
-best-none [] e = tt
-best-none (c ∷ cs) e = go (best cs) e
-  where
-    go : (m : Option Choice) → betterOf c m ≡ none → ⊥ × Every (λ (x : Choice). ⊥) cs
-    go none q = absurd (Option·some-ne-none c q)
-    go (some d) q = absurd (Option·some-ne-none (cond (better d c) d c) q)
-
--- a valid book has a plan
-pub plan-some : (b : Problem) → ValidBook b → (d : Choice) × (plan b ≡ some d)
-unfolding plan bestAdmitted
-plan-some b valid = go (plan b) refl
-  where
-    idle : Every Idle (b .loads)
-    idle = valid .loads .idle
-
-    go : (m : Option Choice) → plan b ≡ m → (d : Choice) × (plan b ≡ some d)
-    go (some d) q = (d, q)
-    go none q =
-        absurd
-        (chosen-in (b .loads) (λ c. T (admitted (slotsOf b) c) → ⊥) (map firstSetting (b .loads)) (idle-choice (b .loads) idle)
-        (every-kept (λ c. ⊥) (admitted (slotsOf b)) (choices (b .loads)) (best-none (keep (admitted (slotsOf b)) (choices (b .loads))) q))
-        (keeps-admitted (length (b .loads)) (slotsOf b) (slots-for b) (map firstSetting (b .loads))
-        (chosen-length (b .loads) (map firstSetting (b .loads)) (idle-choice (b .loads) idle))
-        (idle-keeps (b .loads) idle (slotsOf b))))
+pub book-most : (bytes : List ℕ) → NumberMost 8 (readBook bytes)
+unfolding readBook
+book-most bytes =
+    let line : List ℕ = lineOf bytes in
+    let rest : Result (List Settings) = readLoads (slotCount line) (loadCount line) 2 (afterLine bytes) in
+    let whole : List Settings → Result Problem = λ ls. done (problem line ls) in
+    checked-most 8 1 (lineRule bytes ∷ headerRules line) (andThen rest whole) (omega arith, header-rules-most line)
+    (then-most 8 rest whole (loads-most (slotCount line) (loadCount line) 2 (afterLine bytes)) (λ ls. tt))

@@ -1,6 +1,6 @@
 -- The book, what it says, and how it is read, with refusals 1 to 8 (document 01, "The book" and "Refusals by number").
 use Prim.Native.Nat.{ℕ, zero, suc, _+_, _*_}
-use mathlib.Core.Bool.{Bool, not, _&&_, _||_}
+use mathlib.Core.Bool.{Bool, cond, not, _&&_, _||_}
 use mathlib.Core.List.{List, [], _∷_, map}
 use lib.Dec.{ltb, eqb}
 use lib.IntN.{ℤ, pos, natAbs}
@@ -64,17 +64,23 @@ problem line loads =
     record { fineness = finenessIn line; budget = budgetIn line; limits = limitsIn line; loads = loads }
 
 -- ---- a load line: "kind `02`, o (2 digits), then o options. An option is a worth (4), then for each slot P (4) and Q (4, two's complement
--- of 16 bits). A line has 4 + o × (4 + 8T) digits."
+-- of 16 bits). A line has 4 + o × (4 + 8T) digits." Document 02, M-104: "A load line of kind `06` carries after o one P and Q per slot for
+-- standing, then the options, so it has 4 + 8T + o × (4 + 8T) digits."
 
 abbrev pub loadKinds : List ℕ
-loadKinds = 2 ∷ []
+loadKinds = 2 ∷ 6 ∷ []
 
 abbrev pub optionCount : List ℕ → ℕ
 optionCount line = field line 2 2
 
--- where option j + 1 starts, in a book of t slots
-unfoldable pub optionStart : ℕ → ℕ → ℕ
-optionStart t j = 4 + j * (4 + 8 * t)
+-- how many P and Q for standing a line carries, in a book of t slots: one for each slot where its kind is `06`, else none. Nothing else asks for
+-- the kind.
+unfoldable pub standingPairs : ℕ → List ℕ → ℕ
+standingPairs t line = cond (eqb (field line 0 2) 6) t 0
+
+-- where option j + 1 starts, on a line with so many pairs for standing
+unfoldable pub optionStart : ℕ → ℕ → ℕ → ℕ
+optionStart t pairs j = 4 + 8 * pairs + j * (4 + 8 * t)
 
 -- the P and Q that start at a place
 abbrev pub powerAt : List ℕ → ℕ → Power
@@ -86,15 +92,19 @@ optionAt t line c at =
     record { number = c; worth = field line at 4; powers = map (λ s. powerAt line (at + 4 + 8 * s)) (upto t) }
 
 abbrev pub options : ℕ → List ℕ → Settings
-options t line = map (λ j. optionAt t line (suc j) (optionStart t j)) (upto (optionCount line))
+options t line = map (λ j. optionAt t line (suc j) (optionStart t (standingPairs t line) j)) (upto (optionCount line))
 
--- "0 is standing and draws nothing": no worth, and no power in each of t slots
-abbrev pub standing : ℕ → Setting
-standing t = record { number = 0; worth = 0; powers = map (λ s. noPower) (upto t) }
+-- WHAT STANDING DRAWS in slot s: the pair that the line carries for it; document 02: "a `02` line has zeros there"
+unfoldable pub standingPower : ℕ → List ℕ → ℕ → Power
+standingPower t line s = cond (ltb s (standingPairs t line)) (powerAt line (4 + 8 * s)) noPower
+
+-- "0 is standing": no worth
+abbrev pub standing : ℕ → List ℕ → Setting
+standing t line = record { number = 0; worth = 0; powers = map (standingPower t line) (upto t) }
 
 -- "a number c from 0 to its o": standing, then the options
 abbrev pub settings : ℕ → List ℕ → Settings
-settings t line = standing t ∷ options t line
+settings t line = standing t line ∷ options t line
 
 -- ---- reading: "Lines are read in order, and on each line 1 to 7 are tried in this order, as far as they concern it."
 
@@ -124,17 +134,17 @@ headerRules line =
 abbrev pub reactiveExceeds : Power → Bool
 reactiveExceeds x = ltb (x .p) (natAbs (x .q))
 
--- "|Q| > P in some option and slot"; standing has Q = 0
+-- "|Q| > P in some option and slot"; M-104: "Refusal 7 covers the standing pair too"
 unfoldable pub someExceeds : Settings → Bool
 someExceeds vs = any (λ v. any reactiveExceeds (v .powers)) vs
 
--- 4: "o not 1 to 3"; 5; 7: "|Q| > P in some option and slot"
+-- 4: "o not 1 to 3"; 5, by the length of the line's kind; 7
 unfoldable pub loadRules : ℕ → List ℕ → List Rule
 loadRules t line =
     hexRule line
     ∷ kindRule loadKinds line
     ∷ (not (within 1 mostOptions (optionCount line)) ⇒ SlotsOrOptionsOutOfRange)
-    ∷ (not (eqb (length line) (optionStart t (optionCount line))) ⇒ WrongLength)
+    ∷ (not (eqb (length line) (optionStart t (standingPairs t line) (optionCount line))) ⇒ WrongLength)
     ∷ (someExceeds (settings t line) ⇒ ReactiveExceedsActive)
     ∷ []
 

@@ -1,9 +1,9 @@
--- The planner's result, and which words it may change (document 01, "Trials and the work area", "Refusals by number" 9 to 12).
+-- The planner's result, and which words it may change (document 01, "Trials and the work area", "Refusals by number" 9 to 12; document 02, M-104).
 use Prim.Native.Nat.{ℕ}
 use mathlib.Core.List.{List, [], _∷_}
 use mathlib.Core.Option.{Option, none, some}
 use lib.Dec.{ltb}
-use Rattle.model.specs.declared.Refusal.the-variants.{TooManyCells, WorkTooSmall, BudgetExceeded}
+use Rattle.model.specs.declared.Refusal.the-variants.{TooManyCells, WorkTooSmall, BudgetExceeded, NoPlan}
 use Rattle.model.specs.Bounds.{mostCells}
 use Rattle.model.specs.Refusals.{Result, refused, done, Rule, _⇒_, first, checked, andThen}
 use Rattle.model.specs.Book.{Problem, readBook}
@@ -29,21 +29,23 @@ fitting words room b = checked 0 (first (sizeRules b words room)) (done b)
 unfoldable pub fittingBook : List ℕ → ℕ → ℕ → Result Problem
 fittingBook bytes words room = andThen (readBook bytes) (fitting words room)
 
--- "The choice of all standing always is" admitted, so a book that was read has a plan (proofs/ValidLaws, `plan-some`) and `none` does not occur
-abbrev pub choiceOr : Option Choice → Choice
-choiceOr none = []
-choiceOr (some c) = c
+-- 17 (document 02, M-104): "when no choice is admitted"; so "The choice of all standing always is" admitted no longer holds
+abbrev pub planned : Option Choice → Result Choice
+planned none = refused NoPlan 0
+planned (some c) = done c
 
--- 12: "trials over the budget"; else the plan's sheet. "The result carries the planner's count, and it equals this number"
+-- 12: "trials over the budget"; 17 "comes after 12"; else the plan's sheet. "The result carries the planner's count, and it equals this number"
 unfoldable pub planSheet : Problem → Result Output
 planSheet b =
-    checked 0 (first ((ltb (b .budget) (trials b) ⇒ BudgetExceeded) ∷ [])) (done (sheetOf b (choiceOr (plan b)) (trials b)))
+    checked 0 (first ((ltb (b .budget) (trials b) ⇒ BudgetExceeded) ∷ []))
+    (andThen (planned (plan b)) (λ c. done (sheetOf b c (trials b))))
 
 -- the planner's result, of the book's bytes, the number of words and the room: "no answer depends on what they held before"
 unfoldable pub plannerResult : List ℕ → ℕ → ℕ → Result Output
 plannerResult bytes words room = andThen (fittingBook bytes words room) planSheet
 
--- "Refusals 1 to 11 change no word of the work area"; after a sheet or refusal 12 the needed words are free
+-- "Refusals 1 to 11 change no word of the work area"; after a sheet or refusal 12 the needed words are free; 17 "leaves the
+-- needed words as free as 12 does"
 abbrev pub freeFor : Result Problem → ℕ
 freeFor (refused r number) = 0
 freeFor (done b) = neededWords b

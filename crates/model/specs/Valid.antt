@@ -6,18 +6,13 @@ use lib.IntN.{natAbs}
 use lib.ListN.{length}
 use Rattle.model.specs.Lists.{Every}
 use Rattle.model.specs.Bounds.{mostSlots, mostLoads, mostFineness, mostOptions, mostSettings}
-use Rattle.model.specs.Book.{noPower, Setting, Settings, Problem}
+use Rattle.model.specs.Book.{Setting, Settings, Problem}
 use Rattle.model.specs.Choice.{powerIn}
 use Rattle.model.specs.Grid.{Slot}
 
 -- |Q| ≤ r P in every slot; document 01 has "|Q| ≤ P", which is r = 1
 abbrev pub SettingKept : ℕ → Setting → Type 0
 SettingKept r v = (slot : ℕ) → natAbs (powerIn slot v .q) ≤ r * powerIn slot v .p
-
--- its first setting has no power
-abbrev pub Idle : Settings → Type 0
-Idle [] = ⊥
-Idle (v ∷ vs) = (slot : ℕ) → powerIn slot v ≡ noPower
 
 -- the settings have the numbers i, i + 1, ..
 abbrev pub Numbered : ℕ → Settings → Type 0
@@ -40,7 +35,6 @@ pub record SettingSmall (v : Setting) : Type 0 where
 pub record ValidLoads (n t : ℕ) (loads : List Settings) : Type 0 where
   pub count : length loads ≡ n
   pub keeps : Every (Every (SettingKept 1)) loads
-  pub idle : Every Idle loads
   pub labels : Every Labelled loads
   pub powers : Every (Every (λ v. length (v .powers) ≡ t)) loads
   pub small : Every (Every SettingSmall) loads

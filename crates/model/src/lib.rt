@@ -24,6 +24,7 @@ pub enum Refusal {
     WrongPriceCount,
     WrongNames,
     NamedLoadStands,
+    NoPlan,
 }
 
 // What the table of refusals says: none applies, or the first that does.
@@ -157,6 +158,7 @@ impl Refusal {
             Refusal::WrongPriceCount => 14,
             Refusal::WrongNames => 15,
             Refusal::NamedLoadStands => 16,
+            Refusal::NoPlan => 17,
         }
     }
 }

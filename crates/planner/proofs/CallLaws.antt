@@ -1,22 +1,22 @@
--- The planner's result by cases: each refusal of 9 to 12, and the plan's sheet.
+-- The planner's result by cases: each refusal of 9 to 12, 17, and the plan's sheet.
 -- Assumes nothing.
-use mathlib.Core.Path.{_≡_, refl, sym, ap, ap₂, _∙_}
+use mathlib.Core.Path.{_≡_, refl, sym, ap, _∙_}
 use mathlib.Core.List.{List, []}
-use mathlib.Core.Option.{some}
+use mathlib.Core.Option.{Option, none, some}
 use Prim.Native.Nat.{ℕ, _<_, _≤_}
 use lib.Dec.{ltb}
 use lib.ListN.{length}
 use borrow.Author.Tests.{lt-ltb, le-ltb}
 use Rattle.model.specs.declared.Refusal.{Refusal}
 use Rattle.model.specs.declared.Answer.{Answer}
-use Rattle.model.specs.declared.Refusal.the-variants.{BudgetExceeded}
+use Rattle.model.specs.declared.Refusal.the-variants.{BudgetExceeded, NoPlan}
 use Rattle.model.specs.Refusals.{Result, refused, done, checked, andThen}
 use Rattle.model.specs.Book.{Problem, readBook}
 use Rattle.model.specs.Choice.{Choice}
 use Rattle.model.specs.Grid.{plan}
 use Rattle.model.specs.Trials.{trials, WordsKept}
 use Rattle.model.specs.Sheet.{sheetOf}
-use Rattle.model.specs.Calls.{fitting, fittingBook, choiceOr, planSheet, plannerResult, freeFor, freeWords}
+use Rattle.model.specs.Calls.{fitting, fittingBook, planned, planSheet, plannerResult, freeFor, freeWords}
 use Rattle.model.specs.Answers.{Output, refusalAnswer, Writes}
 use Rattle.model.proofs.RefusalLaws.{first-here, first-last}
 use Rattle.model.proofs.AnswerLaws.{refused-writes}
@@ -36,18 +36,25 @@ unfolding freeWords fittingBook
 free-is book words room = refl
 
 module _ (b : Problem) where
-  abbrev due : Result Output
-  due = done (sheetOf b (choiceOr (plan b)) (trials b))
+  -- the sheet of a plan, once there is one
+  abbrev due : Option Choice → Result Output
+  due m = andThen (planned m) (λ c. done (sheetOf b c (trials b)))
 
   pub plan-over : b .budget < trials b → planSheet b ≡ refused BudgetExceeded 0
   unfolding planSheet
-  plan-over h = ap (λ f. checked 0 f due) (first-here BudgetExceeded [] (ltb (b .budget) (trials b)) (lt-ltb _ _ h))
+  plan-over h = ap (λ f. checked 0 f (due (plan b))) (first-here BudgetExceeded [] (ltb (b .budget) (trials b)) (lt-ltb _ _ h))
+
+  -- within the budget the plan decides
+  plan-due : (m : Option Choice) → trials b ≤ b .budget → plan b ≡ m → due m ≡ planSheet b
+  unfolding planSheet
+  plan-due m h e =
+      ap due (sym e) ∙ sym (ap (λ f. checked 0 f (due (plan b))) (first-last BudgetExceeded (ltb (b .budget) (trials b)) (le-ltb _ _ h)))
+
+  pub plan-missing : trials b ≤ b .budget → plan b ≡ none → planSheet b ≡ refused NoPlan 0
+  plan-missing h e = sym (plan-due none h e)
 
   pub plan-within : (c : Choice) (t : ℕ) → trials b ≤ b .budget → plan b ≡ some c → t ≡ trials b → done (sheetOf b c t) ≡ planSheet b
-  unfolding planSheet
-  plan-within c t h e q =
-      ap₂ (λ x y. done (sheetOf b x y)) (ap choiceOr (sym e)) q
-      ∙ sym (ap (λ f. checked 0 f due) (first-last BudgetExceeded (ltb (b .budget) (trials b)) (le-ltb _ _ h)))
+  plan-within c t h e q = ap (λ n. done (sheetOf b c n)) q ∙ plan-due (some c) h e
 
 -- a refusal of the sizes: the answer, the buffer as before, and no word changed
 pub size-refused : (words : List ℕ) (before : List ℕ) (b : Problem) (r : Refusal) (a : Answer) → a ≡ refusalAnswer r 0

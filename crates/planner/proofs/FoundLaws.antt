@@ -1,4 +1,4 @@
--- From what the search found to the planner's answer: refusal 12, or the plan's sheet.
+-- From what the search found to the plan's sheet.
 -- Assumes nothing.
 use mathlib.Core.Path.{_≡_, sym, ap, ap₂, _∙_}
 use mathlib.Core.Bool.{true}
@@ -14,29 +14,28 @@ use Rattle.model.specs.Sheet.{sheetOf}
 use Rattle.model.specs.Calls.{planSheet}
 use Rattle.model.specs.Values.{Held, problemOf, Picked, choiceOf}
 use Rattle.model.proofs.PlanLaws.{plan-is}
-use Rattle.model.proofs.ValidLaws.{plan-some}
 use Rattle.model.proofs.HeldLaws.{held-valid, held-count}
 use Rattle.found.specs.declared.Search.{Search}
 use Rattle.found.specs.Found.{Found}
 use Rattle.found.proofs.PickLaws.{code-picked, code-choice}
 use Rattle.planner.proofs.CallLaws.{plan-within}
 
-module _ (v : Book) (held : Held v) (s : Search) (found : Found (problemOf v) s) (within : s .within ≡ true) (picks : List ℕ)
+module _ (v : Book) (held : Held v) (s : Search) (found : Found (problemOf v) s) (within : s .within ≡ true) (some-is : s .admitted ≡ true) (picks : List ℕ)
     (digits : take (v .count) picks ≡ decode (v .count) (s .code)) where
-  planned : (c : Choice) × (plan (problemOf v) ≡ some c)
-  planned = plan-some (problemOf v) (held-valid v held)
+  the-plan : (c : Choice) × (plan (problemOf v) ≡ some c) × (s .code ≡ codeOf c)
+  the-plan = found .planned within some-is
 
-  the-digits : take (length (problemOf v .loads)) picks ≡ decode (length (problemOf v .loads)) (codeOf (planned .0))
+  the-digits : take (length (problemOf v .loads)) picks ≡ decode (length (problemOf v .loads)) (codeOf (the-plan .0))
   the-digits =
       ap (λ n. take n picks) (sym (held-count v held))
       ∙ digits
-      ∙ ap₂ decode (held-count v held) (found .coded within (planned .0) (planned .1))
+      ∙ ap₂ decode (held-count v held) (the-plan .2)
 
   pub found-picked : Picked (problemOf v) picks
-  found-picked = code-picked (problemOf v) (held-valid v held) (planned .0) (plan-is (problemOf v) (planned .0) (planned .1) .choice) picks the-digits
+  found-picked = code-picked (problemOf v) (held-valid v held) (the-plan .0) (plan-is (problemOf v) (the-plan .0) (the-plan .1) .choice) picks the-digits
 
   pub found-sheet : done (sheetOf (problemOf v) (choiceOf (problemOf v) picks) (s .trials)) ≡ planSheet (problemOf v)
   found-sheet =
       ap (λ c. done (sheetOf (problemOf v) c (s .trials)))
-      (code-choice (problemOf v) (held-valid v held) (planned .0) (plan-is (problemOf v) (planned .0) (planned .1) .choice) picks the-digits)
-      ∙ plan-within (problemOf v) (planned .0) (s .trials) (found .enough within) (planned .1) (found .counted within)
+      (code-choice (problemOf v) (held-valid v held) (the-plan .0) (plan-is (problemOf v) (the-plan .0) (the-plan .1) .choice) picks the-digits)
+      ∙ plan-within (problemOf v) (the-plan .0) (s .trials) (found .enough within) (the-plan .1) (found .counted within)

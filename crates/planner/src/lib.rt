@@ -1,4 +1,4 @@
-// The planner: the sheet of the plan, or the first refusal of 1 to 12.
+// The planner: the sheet of the plan, or the first refusal of 1 to 12 and 17.
 use layout::Layout;
 use model::Answer;
 use model::Book;
@@ -13,13 +13,13 @@ ghost use Rattle.model.specs.Trials.{neededWords, WordsKept};
 ghost use Rattle.model.specs.Answers.{Writes};
 ghost use Rattle.model.specs.Sheet.{sheetLength};
 ghost use Rattle.model.specs.Calls.{planSheet, plannerResult, fitting, freeFor, freeWords};
-ghost use Rattle.model.specs.Demand.{Demand3};
+ghost use Rattle.model.specs.Demand.{Answered, Demand3};
 ghost use Rattle.model.specs.Values.{Held, problemOf};
 ghost use Rattle.slots.specs.Slots.{SlotsIn};
 ghost use Rattle.layout.specs.Layout.{LayoutIs};
 ghost use Rattle.planner.specs.Planner.{fittedPlan};
 
-// The planner for a book that fits: refusal 12, or the sheet.
+// The planner for a book that fits: refusal 12 or 17, or the sheet.
 fn plan_for(book: Book, slots: Slots, layout: Layout, work: &mut [u64], sheet: &mut [u8]) -> Answer
     requires { ⌜ Held book ⌝ }
     requires { ⌜ SlotsIn 0 (slots .steps) (slots .tops) (slots .widths) (book .limits) 0 (slotsOf (problemOf book)) ⌝ }
@@ -33,11 +33,14 @@ fn plan_for(book: Book, slots: Slots, layout: Layout, work: &mut [u64], sheet: &
     if !found.within {
         return Answer::refusal(Refusal::BudgetExceeded, 0);
     }
+    if !found.admitted {
+        return Answer::refusal(Refusal::NoPlan, 0);
+    }
     let picks = found::picks_of(found.code, book.count);
     sheet::write_sheet(book, picks, found.trials, sheet)
 }
 
-// The planner for a book that was read: refusals 9 to 12, or the sheet.
+// The planner for a book that was read: refusals 9 to 12 and 17, or the sheet.
 fn plan_book(book: Book, work: &mut [u64], sheet: &mut [u8]) -> Answer
     requires { ⌜ Held book ⌝ }
     ensures result { λ r. ⌜ Writes (fittedPlan (length (now (work .entry))) (length (now (sheet .entry))) (problemOf book)) (now (sheet .entry)) (now (sheet .exit)) r ⌝ }
@@ -53,10 +56,11 @@ fn plan_book(book: Book, work: &mut [u64], sheet: &mut [u8]) -> Answer
     plan_for(book, slots, layout, work, sheet)
 }
 
-// The planner: the sheet of the plan, or the first refusal of 1 to 12.
+// The planner: the sheet of the plan, or the first refusal of 1 to 12 and 17.
 pub fn plan(book: &[u8], work: &mut [u64], sheet: &mut [u8]) -> Answer
     ensures result { λ r. ⌜ Writes (plannerResult (now (book .entry)) (length (now (work .entry))) (length (now (sheet .entry)))) (now (sheet .entry)) (now (sheet .exit)) r ⌝ }
     ensures words { λ _. ⌜ WordsKept (freeWords (now (book .entry)) (length (now (work .entry))) (length (now (sheet .entry)))) (now (work .entry)) (now (work .exit)) ⌝ }
+    ensures answered { λ r. ⌜ Answered (now (book .entry)) (length (now (work .entry))) (length (now (sheet .entry))) (r .number) ⌝ }
     ensures demand { λ r. ⌜ (r .number ≡ 0 → Demand3 (now (book .entry)) (now (sheet .exit))) ⌝ }
 {
     let reading = book::read_book(book);

@@ -119,7 +119,7 @@ number-requires c κs =
     let a = c .before .before .before .before .before .before .before .before .before .before .before in
     let l = c .before .before .before .before .before .before .before .before .loop in
     let h = load-line (a .args .slots) (lineOf (drop (l .at) (a .args .s .now))) (a .pre .0) (passed c) in
-    rw (line (c .before .before) .1) (omega (arith, line-holds (a .args .slots) _ (lineOf (drop (l .at) (a .args .s .now))) h))
+    rw (line (c .before .before) .1) (omega (arith, line-holds (a .args .slots) _ _ (lineOf (drop (l .at) (a .args .s .now))) h))
 
 load-of-requires : tie.Need-load-of-requires Inv-loop μ-loop
 load-of-requires c κs =

@@ -20,7 +20,7 @@ returns c =
     let s = c .before .before .before .before .before .before .before .before in
     let p = s .pre in
     let r = c .before .before .before .search in (
-      found-over (s .args .book) (p .0) (s .args .layout) (p .1 .1 .0) _ _ _ _ _ (r .ensures .1 .1 (model (s .args .book) (p .0) (s .args .layout) (p .1 .1 .0))) (c .if1 .taken) 0,
+      found-over (s .args .book) (p .0) (s .args .layout) (p .1 .1 .0) _ _ _ _ _ (r .ensures .1 .1 (model (s .args .book) (p .0) (s .args .layout) (p .1 .1 .0))) (c .if1 .taken) _ 0,
       words-kept (s .args .book) (p .0) (s .args .layout) (p .1 .1 .0) _ _ _ _ _ (r .ensures .1 .0) (r .ensures .0),
     )
 
@@ -42,11 +42,11 @@ same-length-2 c = search needs
 
 returns-2 : tie.Need-returns-2
 returns-2 c =
-    let s = c .before .before .before .before .before .before .before .before .before .before .before .before .before .before .before .before .before in
+    let s = c .before .before .before .before .before .before .before .before .before .before .before .before .before .before .before .before .before .before in
     let p = s .pre in
-    let r = c .before .before .before .before .before .before .before .before .before .before .before .before .search in (
+    let r = c .before .before .before .before .before .before .before .before .before .before .before .before .before .search in (
       found-within (s .args .book) (p .0) (s .args .layout) (p .1 .1 .0) _ _ _ (p .1 .0) _ _ _ _ _ _ (r .ensures .1 .1 (model (s .args .book) (p .0) (s .args .layout) (p .1 .1 .0)))
-          (omega (arith, c .before .before .before .before .before .before .before .before .before .if1 .left)) (c .scan .ensures),
+          (omega (arith, c .before .before .before .before .before .before .before .before .before .before .if1 .left)) (c .before .scan .ensures),
       words-kept (s .args .book) (p .0) (s .args .layout) (p .1 .1 .0) _ _ _ _ _ (r .ensures .1 .0) (r .ensures .0),
     )
 

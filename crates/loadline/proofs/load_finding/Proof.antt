@@ -1,5 +1,5 @@
 -- `loadline::load_finding` meets its contract: past each test that fails, the rules after it decide. Assumes nothing.
-use mathlib.Core.Path.{_≡_, sym, ap, _∙_}
+use mathlib.Core.Path.{_≡_, sym, ap, ap₂, _∙_}
 use mathlib.Core.Bool.{false, not}
 use mathlib.Core.List.{List}
 use Prim.Native.Nat.{ℕ}
@@ -8,9 +8,10 @@ use borrow.Author.Tests.{eq-eqb, ne-eqb}
 use Rattle.model.specs.declared.Refusal.the-variants.{NotHex, WrongKind, SlotsOrOptionsOutOfRange, WrongLength, ReactiveExceedsActive}
 use Rattle.model.specs.Lists.{within}
 use Rattle.model.specs.Refusals.{first}
-use Rattle.model.specs.Book.{loadKinds, loadRules, optionCount, optionStart}
+use Rattle.model.specs.Book.{loadKinds, loadRules, optionCount, standingPairs, optionStart}
 use Rattle.model.proofs.RefusalLaws.{first-here, first-next, first-last}
 use Rattle.hex.proofs.RangeLaws.{kind-long, ranged, in-range}
+use Rattle.loadline.proofs.LineLaws.{pairs-most}
 use native.Mathlib.Omega.{arith}
 use borrow.Author.Needs.{needs}
 use Rattle.loadline.proofs.load_finding.Statement.{statement}
@@ -67,33 +68,42 @@ count : (c : tie.Else3)
 unfolding loadRules
 count c = kind (c .before .before .before) ∙ first-next SlotsOrOptionsOutOfRange _ _ (few c)
 
+standing-pairs-requires : tie.Need-standing-pairs-requires
+standing-pairs-requires c κs =
+    let l = c .before .before .before .before .before .before .before .before .before .args .line .now in
+    omega (arith, kind-long loadKinds l (sym (c .before .before .before .before .wrong-kind .ensures) ∙ c .before .before .before .if2 .left))
+
 option-start-requires : tie.Need-option-start-requires
 option-start-requires c κs =
-    let l = c .before .before .before .before .before .before .before .before .before .args .line .now in
-    omega (arith, in-range 1 3 (optionCount l) (few c))
+    let s = c .before .before .before .before .before .before .before .before .before .before in
+    let l = s .args .line .now in
+    (s .pre, rw (c .standing-pairs .ensures) (pairs-most (s .args .slots) l), omega (arith, in-range 1 3 (optionCount l) (few (c .before))))
 
-due : (c : tie.After-option-start)
-    → c .option-start .result ≡ optionStart (c .before .before .before .before .before .before .before .before .before .before .args .slots) (optionCount (c .before .before .before .before .before .before .before .before .before .before .args .line .now))
-due c = c .option-start .ensures ∙ ap (optionStart _) (c .before .before .before .number .ensures)
+-- the length that is due
+abbrev dueFor : ℕ → List ℕ → ℕ
+dueFor t line = optionStart t (standingPairs t line) (optionCount line)
+
+due : (c : tie.After-option-start) → c .option-start .result ≡ dueFor (c .before .before .before .before .before .before .before .before .before .before .before .args .slots) (c .before .before .before .before .before .before .before .before .before .before .before .args .line .now)
+due c = c .option-start .ensures ∙ ap₂ (optionStart _) (c .before .standing-pairs .ensures) (c .before .before .before .before .number .ensures)
 
 returns-4 : tie.Need-returns-4
 unfolding loadRules
 returns-4 c =
-    let a = c .before .before .before .before .before .before .before .before .before .before .before .args in
-    sym (count (c .before .before) ∙ first-here WrongLength _ _ (ap not (ne-eqb (length (a .line .now)) (optionStart (a .slots) (optionCount (a .line .now))) (λ e. c .if4 .taken (e ∙ sym (due (c .before)))))))
+    let a = c .before .before .before .before .before .before .before .before .before .before .before .before .args in
+    sym (count (c .before .before .before) ∙ first-here WrongLength _ _ (ap not (ne-eqb (length (a .line .now)) (dueFor (a .slots) (a .line .now)) (λ e. c .if4 .taken (e ∙ sym (due (c .before)))))))
 
-digits : (c : tie.Else4)
-    → Left (c .before .before .before .before .before .before .before .before .before .before .before .args .slots) (c .before .before .before .before .before .before .before .before .before .before .before .args .line .now) 4
+digits : (c : tie.Else4) → Left (c .before .before .before .before .before .before .before .before .before .before .before .before .args .slots) (c .before .before .before .before .before .before .before .before .before .before .before .before .args .line .now) 4
 unfolding loadRules
-digits c = count (c .before .before) ∙ first-next WrongLength _ _ (ap not (eq-eqb _ _ (c .if4 .left ∙ due (c .before))))
+digits c = count (c .before .before .before) ∙ first-next WrongLength _ _ (ap not (eq-eqb _ _ (c .if4 .left ∙ due (c .before))))
 
 some-exceeds-requires : tie.Need-some-exceeds-requires
 some-exceeds-requires c κs =
-    let a = c .before .before .before .before .before .before .before .before .before .before .before .args in
+    let a = c .before .before .before .before .before .before .before .before .before .before .before .before .args in
     record {
-      slots = c .before .before .before .before .before .before .before .before .before .before .before .pre;
-      options = rw (c .before .before .before .before .number .ensures) (in-range 1 3 (optionCount (a .line .now)) (few (c .before .before)) .1);
-      stated = c .before .before .before .before .number .ensures;
+      slots = c .before .before .before .before .before .before .before .before .before .before .before .before .pre;
+      drawn = c .before .before .standing-pairs .ensures;
+      options = rw (c .before .before .before .before .before .number .ensures) (in-range 1 3 (optionCount (a .line .now)) (few (c .before .before .before)) .1);
+      stated = c .before .before .before .before .before .number .ensures;
       long = c .if4 .left ∙ c .before .option-start .ensures;
     }
 
@@ -117,6 +127,7 @@ load-finding-spec =
     number-requires
     outside-requires
     returns-3
+    standing-pairs-requires
     option-start-requires
     returns-4
     some-exceeds-requires

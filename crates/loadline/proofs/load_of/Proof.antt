@@ -1,6 +1,6 @@
 -- `loadline::load_of` meets its contract. The invariant: the first k entries of both arrays are filled. Assumes nothing.
 use Prim.Native.Nat.{ℕ, _+_, _≤_, _-_}
-use mathlib.Core.Path.{_≡_, refl, ap}
+use mathlib.Core.Path.{_≡_, refl, sym, ap, subst}
 use mathlib.Core.List.{map}
 use lib.ListN.{length, take, length-set}
 use Rattle.model.specs.Lists.{upto}
@@ -8,7 +8,8 @@ use Rattle.model.specs.Book.{Settings, settings}
 use Rattle.model.specs.Values.{raised, powerOf, loadValue}
 use Rattle.model.proofs.UptoLaws.{fill-more, fill-all}
 use Rattle.loadline.specs.declared.PowerValue.{PowerValue}
-use Rattle.loadline.proofs.LineLaws.{length-settings}
+use Rattle.loadline.specs.LoadLine.{LoadLine}
+use Rattle.loadline.proofs.LineLaws.{line-holds, length-settings}
 use borrow.Author.Needs.{needs}
 use native.Mathlib.Omega.{arith}
 use Rattle.loadline.proofs.load_of.Statement.{statement}
@@ -21,19 +22,31 @@ abbrev reactive : Settings → ℕ → ℕ
 reactive vs k = raised (powerOf vs k .q)
 
 abbrev Inv-loop : tie.InvT-loop
-Inv-loop line slots count worths actives₀ reactives₀ k₀ actives reactives k = (k ≤ 16) × (length actives ≡ 16) × (length reactives ≡ 16) × (take k actives ≡ map (active (settings slots line)) (upto k)) × (take k reactives ≡ map (reactive (settings slots line)) (upto k))
+Inv-loop line slots count pairs worths actives₀ reactives₀ k₀ actives reactives k = (k ≤ 16) × (length actives ≡ 16) × (length reactives ≡ 16) × (take k actives ≡ map (active (settings slots line)) (upto k)) × (take k reactives ≡ map (reactive (settings slots line)) (upto k))
 
 abbrev μ-loop : tie.MeasureT-loop
-μ-loop line slots count worths actives₀ reactives₀ k₀ actives reactives k = 16 - k
+μ-loop line slots count pairs worths actives₀ reactives₀ k₀ actives reactives k = 16 - k
+
+standing-pairs-requires : tie.Need-standing-pairs-requires Inv-loop μ-loop
+standing-pairs-requires c κs =
+    let s = c .before in
+    omega (arith, line-holds (s .args .slots) _ (s .args .count) (s .args .line .now) (s .pre))
+
+-- what is asked of the line, with the pairs that were found
+lined : (c : tie.After-standing-pairs Inv-loop μ-loop)
+    → LoadLine (c .before .before .args .slots) (c .standing-pairs .result) (c .before .before .args .count) (c .before .before .args .line .now)
+lined c =
+    let s = c .before .before in
+    subst (λ n. LoadLine (s .args .slots) n (s .args .count) (s .args .line .now)) (sym (c .standing-pairs .ensures)) (s .pre)
 
 worths-of-requires : tie.Need-worths-of-requires Inv-loop μ-loop
-worths-of-requires c κs = search needs
+worths-of-requires c κs = lined c
 
 loop-holds : tie.Need-loop-holds Inv-loop μ-loop
 loop-holds c = (search needs, refl, refl, refl, refl)
 
 power-of-requires : tie.Need-power-of-requires Inv-loop μ-loop
-power-of-requires c κs = search needs
+power-of-requires c κs = lined (c .before .before .before)
 
 mul-actives : tie.Need-mul-actives Inv-loop μ-loop
 mul-actives c = search needs
@@ -56,7 +69,7 @@ loop-less c = search needs
 loop-again : tie.Need-loop-again Inv-loop μ-loop
 unfolding powerOf
 loop-again c =
-    let a = c .before .before .before .before .before .args in
+    let a = c .before .before .before .before .before .before .args in
     let l = c .before .before .loop in
     let vs = settings (a .slots) (a .line .now) in (
       search needs,
@@ -72,8 +85,8 @@ add-settings c = search needs
 returns : tie.Need-returns Inv-loop μ-loop
 unfolding loadValue
 returns c =
-    let a = c .before .before .before .before .args in
-    let h = c .before .before .before .before .pre in
+    let a = c .before .before .before .before .before .args in
+    let h = c .before .before .before .before .before .pre in
     let l = c .before .loop in
     let vs = settings (a .slots) (a .line .now) in
     let many : a .count + 1 ≡ length vs = omega (arith, length-settings (a .slots) (a .line .now)) in
@@ -87,6 +100,7 @@ load-of-spec =
     (tie.spec
     Inv-loop
     μ-loop
+    standing-pairs-requires
     worths-of-requires
     loop-holds
     power-of-requires

@@ -14,14 +14,21 @@ add-result : tie.Need-add-result
 add-result c = search needs
 
 mul-result-2 : tie.Need-mul-result-2
-mul-result-2 c = omega (arith, option-product (c .args .slots) (c .args .j) (omega arith) (omega arith))
+mul-result-2 c = search needs
 
 add-result-2 : tie.Need-add-result-2
-add-result-2 c = omega (arith, option-product (c .args .slots) (c .args .j) (omega arith) (omega arith))
+add-result-2 c = search needs
+
+mul-result-3 : tie.Need-mul-result-3
+mul-result-3 c = omega (arith, option-product (c .args .slots) (c .args .j) (omega arith) (omega arith))
+
+add-result-3 : tie.Need-add-result-3
+add-result-3 c = omega (arith, option-product (c .args .slots) (c .args .j) (omega arith) (omega arith))
 
 returns : tie.Need-returns
 unfolding optionStart
 returns c = refl
 
 pub option-start-spec : {M : Type 1} → statement M
-option-start-spec = tie.close (tie.spec mul-result add-result mul-result-2 add-result-2 returns)
+option-start-spec =
+    tie.close (tie.spec mul-result add-result mul-result-2 add-result-2 mul-result-3 add-result-3 returns)

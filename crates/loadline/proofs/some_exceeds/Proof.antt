@@ -22,16 +22,16 @@ abbrev power : List ℕ → ℕ → ℕ → ℕ → Power
 power line slots c s = powerIn s (setting line slots c)
 
 abbrev Inv-loop : tie.InvT-loop
-Inv-loop line slots count found₀ last c s₀ found s = (s ≤ slots) × (found ≡ false) × (any reactiveExceeds (map (power line slots c) (upto s)) ≡ false)
+Inv-loop line slots pairs count found₀ last c s₀ found s = (s ≤ slots) × (found ≡ false) × (any reactiveExceeds (map (power line slots c) (upto s)) ≡ false)
 
 abbrev μ-loop : tie.MeasureT-loop
-μ-loop line slots count found₀ last c s₀ found s = slots - s
+μ-loop line slots pairs count found₀ last c s₀ found s = slots - s
 
 abbrev Inv-settings : tie.InvT-settings
-Inv-settings line slots count found₀ last c₀ found c = (c ≤ last) × (found ≡ false) × (any (exceedsIn slots) (map (setting line slots) (upto c)) ≡ false)
+Inv-settings line slots pairs count found₀ last c₀ found c = (c ≤ last) × (found ≡ false) × (any (exceedsIn slots) (map (setting line slots) (upto c)) ≡ false)
 
 abbrev μ-settings : tie.MeasureT-settings
-μ-settings line slots count found₀ last c₀ found c = last - c
+μ-settings line slots pairs count found₀ last c₀ found c = last - c
 
 add-settings : tie.Need-add-settings Inv-loop μ-loop Inv-settings μ-settings
 add-settings c = search needs

@@ -13,10 +13,10 @@ use Rattle.loadline.proofs.worths_of.Statement.{statement}
 use Rattle.loadline.proofs.worths_of.Tie as tie
 
 abbrev Inv-loop : tie.InvT-loop
-Inv-loop line slots count worths₀ c₀ worths c = (c ≤ 4) × (length worths ≡ 4) × (take c worths ≡ map (λ k. settingOf (settings slots line) k .worth) (upto c))
+Inv-loop line slots pairs count worths₀ c₀ worths c = (c ≤ 4) × (length worths ≡ 4) × (take c worths ≡ map (λ k. settingOf (settings slots line) k .worth) (upto c))
 
 abbrev μ-loop : tie.MeasureT-loop
-μ-loop line slots count worths₀ c₀ worths c = 4 - c
+μ-loop line slots pairs count worths₀ c₀ worths c = 4 - c
 
 loop-holds : tie.Need-loop-holds Inv-loop μ-loop
 loop-holds c = (search needs, refl, refl)

@@ -7,6 +7,7 @@ use Rattle.model.specs.Answers.{Writes}
 use Rattle.model.specs.Calls.{plannerResult, fitting, freeFor}
 use Rattle.model.specs.Demand.{Demand3}
 use Rattle.model.proofs.AnswerLaws.{writes-same}
+use Rattle.model.proofs.AnsweredLaws.{answered-as}
 use Rattle.model.proofs.DemandLaws.{demand3}
 use Rattle.model.proofs.ReadingLaws.{reading-held, reading-done, reading-refused}
 use Rattle.planner.specs.Planner.{fittedPlan}
@@ -23,10 +24,12 @@ returns c =
     let a = c .before .before .before .before .before .before .before .args in
     let r = c .before .before .before .read-book in
     let words = length (a .work .now) in
-    let room = length (a .sheet .now) in (
-      writes-same (sym (planner-is (a .book .now) words room))
-          (reading-refused (a .book .now) (r .result) (r .ensures) (fittedPlan words room) (a .sheet .now) (c .if1 .taken)),
-      (record { same-length = refl; kept = refl }, λ z. absurd (c .if1 .taken z)),
+    let room = length (a .sheet .now) in
+    let w : Writes (plannerResult (a .book .now) words room) (a .sheet .now) _ _
+    = writes-same (sym (planner-is (a .book .now) words room))
+    (reading-refused (a .book .now) (r .result) (r .ensures) (fittedPlan words room) (a .sheet .now) (c .if1 .taken)) in (
+      w,
+      (record { same-length = refl; kept = refl }, (answered-as (a .book .now) words room _ (w .answers), λ z. absurd (c .if1 .taken z))),
     )
 
 plan-book-requires : tie.Need-plan-book-requires
@@ -54,7 +57,10 @@ returns-2 c =
       w,
       (
         subst (λ n. WordsKept n (a .work .now) (c .before .before .before .before .plan-book .last .1 .0)) (ap freeFor f ∙ sym (free-is (a .book .now) words room)) (b .1),
-        λ n. subst (Demand3 (a .book .now)) (sym (w .leaves)) (demand3 (a .book .now) words (a .sheet .now) (sym (ap (λ (x : Answer). x .number) (w .answers)) ∙ n)),
+        (
+          answered-as (a .book .now) words room _ (w .answers),
+          λ n. subst (Demand3 (a .book .now)) (sym (w .leaves)) (demand3 (a .book .now) words (a .sheet .now) (sym (ap (λ (x : Answer). x .number) (w .answers)) ∙ n)),
+        ),
       ),
     )
 

@@ -1,0 +1,127 @@
+-- When the planner gives a sheet, and when refusal 17, in both directions.
+-- Assumes nothing.
+use mathlib.Core.Path.{_≡_, refl, sym, ap, _∙_, subst}
+use mathlib.Core.Bool.{Bool, true, false}
+use mathlib.Core.Logic.{_⊎_, inl, inr}
+use mathlib.Core.List.{List, [], _∷_}
+use mathlib.Core.Option.{Option, none, some}
+use Prim.Native.Nat.{ℕ, _<_, _≤_}
+use native.Mathlib.Omega.{arith}
+use lib.Dec.{ltb}
+use borrow.Author.Tests.{le-ltb, ltb-false}
+use Rattle.model.specs.declared.Answer.{Answer}
+use Rattle.model.specs.declared.Refusal.{Refusal}
+use Rattle.model.specs.declared.Refusal.the-variants.{BudgetExceeded}
+use Rattle.model.specs.declared.Finding.{Finding}
+use Rattle.model.specs.declared.Finding.the-variants.{Passed, Refused}
+use Rattle.model.specs.Refusals.{Result, refused, done, _⇒_, first, checked, andThen, numberOf}
+use Rattle.model.specs.Bounds.{mostCells}
+use Rattle.model.specs.Book.{Problem, readBook}
+use Rattle.model.specs.Choice.{Choice}
+use Rattle.model.specs.Grid.{plan}
+use Rattle.model.specs.Trials.{cells, neededWords, trials}
+use Rattle.model.specs.Sheet.{sheetOf, sheetLength}
+use Rattle.model.specs.Calls.{sizeRules, fitting, fittingBook, planned, planSheet, plannerResult}
+use Rattle.model.specs.Demand.{Searched, SomeAdmitted, Answered}
+use Rattle.model.specs.Answers.{answerOf}
+use Rattle.model.proofs.RefusalLaws.{number-some, NoneApplies, first-passed, first-none, first-most, RulesMost, NumberMost}
+use Rattle.model.proofs.PlanLaws.{plan-is, plan-none}
+use Rattle.model.proofs.ValidLaws.{book-most}
+
+-- a number that refusals 1 to 12 do not have
+abbrev Past : ℕ → Type 0
+Past n = (n ≡ 0) ⊎ (12 < n)
+
+not-past : {A : Type 0} (r : Refusal) → numberOf r ≤ 12 → Past (numberOf r) → A
+not-past r h (inl e) = absurd (number-some r e)
+not-past r h (inr l) = absurd (omega arith)
+
+module _ (book : List ℕ) (words room : ℕ) where
+  size-rules-most : (b : Problem) → RulesMost 12 (sizeRules b words room)
+  unfolding sizeRules
+  size-rules-most b = (omega arith, (omega arith, (omega arith, tt)))
+
+  -- what the planner answers once none of 1 to 12 applies
+  searched-result : (b : Problem) → Searched book words room b → plannerResult book words room ≡ andThen (planned (plan b)) (λ c. done (sheetOf b c (trials b)))
+  unfolding plannerResult fittingBook planSheet sizeRules
+  searched-result b h =
+      ap (λ x. andThen (andThen x (fitting words room)) planSheet) (h .reads)
+      ∙ ap (λ f. andThen (checked 0 f (done b)) planSheet)
+      (first-none (sizeRules b words room)
+      (le-ltb mostCells (cells b) (h .few), (le-ltb words (neededWords b) (h .wide), (le-ltb room (sheetLength b) (h .long), tt))))
+      ∙ ap (λ f. checked 0 f (andThen (planned (plan b)) (λ c. done (sheetOf b c (trials b)))))
+      (first-none ((ltb (b .budget) (trials b) ⇒ BudgetExceeded) ∷ []) (le-ltb (b .budget) (trials b) (h .enough), tt))
+
+  -- and a number past theirs is given only there
+  searched-only : Past (answerOf (plannerResult book words room) .number) → (b : Problem) × Searched book words room b
+  unfolding plannerResult fittingBook planSheet sizeRules first
+  searched-only p = at-book (readBook book) refl (book-most book) p
+    where
+      at-budget : (b : Problem) → readBook book ≡ done b → first (sizeRules b words room) ≡ Passed → (t : Bool) → ltb (b .budget) (trials b) ≡ t
+          → Past (answerOf (checked 0 (first ((t ⇒ BudgetExceeded) ∷ [])) (andThen (planned (plan b)) (λ c. done (sheetOf b c (trials b))))) .number)
+          → (b : Problem) × Searched book words room b
+      at-budget b e f true q p = not-past BudgetExceeded (omega arith) p
+      at-budget b e f false q p =
+          let n : NoneApplies (sizeRules b words room) = first-passed (sizeRules b words room) f in (
+            b,
+            record {
+              reads = e;
+              few = ltb-false mostCells (cells b) (n .0);
+              wide = ltb-false words (neededWords b) (n .1 .0);
+              long = ltb-false room (sheetLength b) (n .1 .1 .0);
+              enough = ltb-false (b .budget) (trials b) q;
+            },
+          )
+
+      at-size : (b : Problem) → readBook book ≡ done b → (f : Finding) → first (sizeRules b words room) ≡ f
+          → Past (answerOf (andThen (checked 0 f (done b)) planSheet) .number) → (b : Problem) × Searched book words room b
+      at-size b e (Refused r) q p = not-past r (first-most 12 (sizeRules b words room) r (size-rules-most b) q) p
+      at-size b e Passed q p = at-budget b e q (ltb (b .budget) (trials b)) refl p
+
+      at-book : (x : Result Problem) → readBook book ≡ x → NumberMost 8 x → Past (answerOf (andThen (andThen x (fitting words room)) planSheet) .number)
+          → (b : Problem) × Searched book words room b
+      at-book (refused r line) e h p = not-past r (omega arith) p
+      at-book (done b) e h p = at-size b e (first (sizeRules b words room)) refl p
+
+  -- the number with a plan, and without
+  abbrev numbered : Problem → Option Choice → ℕ
+  numbered b m = answerOf (andThen (planned m) (λ c. done (sheetOf b c (trials b)))) .number
+
+  number-is : (b : Problem) → Searched book words room b → answerOf (plannerResult book words room) .number ≡ numbered b (plan b)
+  number-is b h = ap (λ x. answerOf x .number) (searched-result b h)
+
+  with-plan : (b : Problem) (c : Choice) → plan b ≡ some c → SomeAdmitted b
+  with-plan b c e = record { choice = c; of-book = plan-is b c e .choice; admissible = plan-is b c e .admissible }
+
+  without-plan : (b : Problem) → plan b ≡ none → SomeAdmitted b → ⊥
+  without-plan b e a = plan-none b e (a .choice) (a .of-book) (a .admissible)
+
+  -- WHEN A SHEET IS GIVEN, AND WHEN 17
+  answered : Answered book words room (answerOf (plannerResult book words room) .number)
+  answered =
+      record {
+        sheet = λ b h a. number-is b h ∙ given b a (plan b) refl;
+        sheet-only = λ e. let x = searched-only (inl e) in (x .0, x .1, found (x .0) (plan (x .0)) refl (sym (number-is (x .0) (x .1)) ∙ e));
+        none = λ b h n. number-is b h ∙ missing b n (plan b) refl;
+        none-only = λ e. let x = searched-only (inr (omega (arith, e))) in (x .0, x .1, lacking (x .0) (plan (x .0)) refl (sym (number-is (x .0) (x .1)) ∙ e));
+      }
+    where
+      given : (b : Problem) → SomeAdmitted b → (m : Option Choice) → plan b ≡ m → numbered b m ≡ 0
+      given b a none e = absurd (without-plan b e a)
+      given b a (some c) e = refl
+
+      found : (b : Problem) (m : Option Choice) → plan b ≡ m → numbered b m ≡ 0 → SomeAdmitted b
+      found b none e q = absurd (omega arith)
+      found b (some c) e q = with-plan b c e
+
+      missing : (b : Problem) → (SomeAdmitted b → ⊥) → (m : Option Choice) → plan b ≡ m → numbered b m ≡ 17
+      missing b n none e = refl
+      missing b n (some c) e = absurd (n (with-plan b c e))
+
+      lacking : (b : Problem) (m : Option Choice) → plan b ≡ m → numbered b m ≡ 17 → SomeAdmitted b → ⊥
+      lacking b none e q = without-plan b e
+      lacking b (some c) e q = absurd (omega arith)
+
+-- the same of an answer that is the planner's
+pub answered-as : (book : List ℕ) (words room : ℕ) (a : Answer) → a ≡ answerOf (plannerResult book words room) → Answered book words room (a .number)
+answered-as book words room a e = subst (λ (x : Answer). Answered book words room (x .number)) (sym e) (answered book words room)
