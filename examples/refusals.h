@@ -26,6 +26,7 @@ static inline const char *refusal_word(uint64_t number)
     case JADESHUTTLE_WRONG_PRICE_COUNT: return "prices";
     case JADESHUTTLE_WRONG_NAMES: return "names";
     case JADESHUTTLE_NAMED_LOAD_STANDS: return "blocked";
+    case JADESHUTTLE_NO_PLAN: return "no plan";
     default: return "unknown";
     }
 }

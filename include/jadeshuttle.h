@@ -13,7 +13,15 @@
  *
  * docs/HANDBOOK.md describes the book and the sheet field by field, what the
  * limits mean for a relay, how large a work area a book needs, what a price is,
- * which loads to name for an order, and what each party learns from its view.
+ * which loads to name for an order, what each party learns from its view, and what
+ * can be done where a book has no plan.
+ *
+ * THE BOOK  A header line of kind 01, then a line for each load: of kind 02, or of
+ * kind 06 for a load that draws while it stands. A 06 line has, after its number of
+ * levels, a P and a Q for each slot, its standing pairs, and then the levels: in all
+ * 4 + 8T + o x (4 + 8T) digits, 8T more than a 02 line. Every sum of P and Q counts
+ * the standing pair of a load that stands; on a 02 line it is (0, 0). Such a load is
+ * standing all the same: its level and its worth are 0, whatever it draws.
  *
  * LINKING  Name target/staticlib/libjadeshuttle.a after your own files. It calls
  * memcpy and memset of the C library, and nothing else.
@@ -42,9 +50,9 @@
  *     sheet. It is no C string: no 0 byte follows. The rest of the buffer keeps
  *     its values. The same holds for an order or a view and its buffer.
  *   - With a refusal: no byte of the buffer changes.
- *   - The work area: with a sheet or refusal 12, the first 4 x cells words hold
- *     anything, and the words past them keep their values. With refusals 1 to 11
- *     no word changes.
+ *   - The work area: with a sheet, refusal 12 or refusal 17, the first 4 x cells
+ *     words hold anything, and the words past them keep their values. With refusals
+ *     1 to 11 no word changes.
  *   - The book never changes, nor does anything else that a call only reads.
  *
  * THREADS  There is no state. Calls may run at the same time in several threads,
@@ -68,7 +76,7 @@ extern "C" {
 #endif
 
 /* Bounds. Buffers of these sizes are large enough for every book. */
-#define JADESHUTTLE_BOOK_MAX 2745     /* bytes of the longest book: T = 4, N = 24, three levels each */
+#define JADESHUTTLE_BOOK_MAX 3513     /* bytes of the longest book: 33 + 24 x 145 for T = 4, three levels, kind 06 */
 #define JADESHUTTLE_SHEET_MAX 159     /* bytes of the longest sheet: 19 + 2N + 23T for N = 24, T = 4 */
 #define JADESHUTTLE_ORDER_MAX 24      /* bytes of the longest order: N = 24 */
 #define JADESHUTTLE_VIEW_MAX 107      /* bytes of the longest view: the mill's, 11 + 4N for N = 24 */
@@ -77,7 +85,7 @@ extern "C" {
 
 /*
  * What `number` says. Lines are read in order, and on each line 1 to 7 are tried
- * in this order, as far as they concern it; then 8 to 16, but the 11 of an order or
+ * in this order, as far as they concern it; then 8 to 17, but the 11 of an order or
  * a view comes last. The first that applies is given. `line` is the number of the
  * line in the book, from 1, for 1 to 8; it is 0 for success and from 9 on. Each
  * comment begins with the handbook's word.
@@ -87,11 +95,11 @@ enum jadeshuttle_number {
     /* All calls: the book. */
     JADESHUTTLE_UNTERMINATED = 1,                   /* torn: a line is due and no LF follows */
     JADESHUTTLE_NOT_HEX = 2,                        /* smudged: a byte of the line is no digit 0-9 A-F */
-    JADESHUTTLE_WRONG_KIND = 3,                     /* stray: fewer than 4 digits, or kind not the one due */
+    JADESHUTTLE_WRONG_KIND = 3,                     /* stray: fewer than 4 digits, or kind not one that is due */
     JADESHUTTLE_SLOTS_OR_OPTIONS_OUT_OF_RANGE = 4,  /* crowded: T not 1 to 4; o not 1 to 3 */
     JADESHUTTLE_WRONG_LENGTH = 5,                   /* misshapen: number of digits not the stated one */
     JADESHUTTLE_LOADS_OR_FINENESS_OUT_OF_RANGE = 6, /* beyond: N not 1 to 24, or d not 1 to 64; line 1 */
-    JADESHUTTLE_REACTIVE_EXCEEDS_ACTIVE = 7,        /* slack: |Q| > P in some option and slot */
+    JADESHUTTLE_REACTIVE_EXCEEDS_ACTIVE = 7,        /* slack: |Q| > P in some slot of an option or of standing */
     JADESHUTTLE_TRAILING_BYTES = 8,                 /* trailing: bytes remain after the last load line; line N + 2 */
     /* The planner only. */
     JADESHUTTLE_TOO_MANY_CELLS = 9,  /* oversize: cells over 1,048,576 */
@@ -106,7 +114,9 @@ enum jadeshuttle_number {
     JADESHUTTLE_WRONG_PRICE_COUNT = 14, /* prices: their number is not T */
     /* The order only. */
     JADESHUTTLE_WRONG_NAMES = 15,       /* names: not N of them, or one is neither 0 nor a higher load's number */
-    JADESHUTTLE_NAMED_LOAD_STANDS = 16  /* blocked: a load that starts names one that stands in the new sheet */
+    JADESHUTTLE_NAMED_LOAD_STANDS = 16, /* blocked: a load that starts names one that stands in the new sheet */
+    /* The planner and the quick planner. */
+    JADESHUTTLE_NO_PLAN = 17 /* no plan: no choice is admitted; quick planner: all standing breaks a limit */
 };
 
 /* What the planners and the views answer. With a refusal, bytes, worth and trials are 0. */
@@ -151,13 +161,19 @@ typedef struct jadeshuttle_order_answer {
 
 /*
  * The planner. Writes the sheet of the plan: the admitted choice of greatest
- * worth, and among equals the one with the smallest code. Gives 1 to 12.
+ * worth, and among equals the one with the smallest code. Gives 1 to 12, and then
+ * 17. There is a sheet exactly where no refusal applies, and 17 exactly where none
+ * of 1 to 12 applies and no choice is admitted. A choice that keeps the limits is
+ * admitted, so with 17 none keeps them. Without 06 lines all standing does, and 17
+ * is not given.
  *
  * Of every sheet it gives, with P and Q the true sums in a slot and S its limit:
  *   - no choice that keeps P*P + Q*Q <= S*S in every slot is worth more;
  *   - 4*d*d * (P*P + Q*Q) <= (2*d+3)*(2*d+3) * S*S in every slot, so that the
  *     apparent power is at most (1 + 3/(2*d)) * S;
  *   - P*P + Q*Q <= S*S in every slot where S < 2*N*d.
+ * The sums count standing pairs, in other choices too. The last two hold whether or
+ * not all standing, or any other choice, keeps the limits.
  *
  * 4 x cells words of work area are needed. The budget in the book bounds the
  * number of trials, not the time. The time depends on the trials and on the
@@ -171,11 +187,17 @@ jadeshuttle_answer jadeshuttle_plan(const uint8_t *book, size_t book_len,
                                     uint8_t *sheet, size_t sheet_len);
 
 /*
- * The quick planner. Takes level 1 of a load or leaves it standing: smallest
- * P*P + Q*Q (summed over the slots) first, each load once. Its sheet keeps
- * P*P + Q*Q <= S*S in every slot, whatever d is, but may be worth far less than
- * the plan. It needs no work area and has no bound on cells or trials. Gives 1 to
- * 8 and 11.
+ * The quick planner. Begins with all loads standing, and takes level 1 of a load or
+ * leaves it so: smallest P*P + Q*Q of level 1 (summed over the slots) first, each
+ * load once. Level 1 replaces the standing pair. A load once passed over is never
+ * tried again, even where it would fit later, once another has left its standing
+ * pair. The sheet keeps P*P + Q*Q <= S*S in every slot, whatever d is, but may be
+ * worth far less than the plan. It needs no work area and has no bound on cells or
+ * trials.
+ *
+ * Gives 1 to 8, 11, and then 17 where the true sums of all standing break a limit,
+ * even where running some load would draw less. So it can give 17 where the planner
+ * has a sheet. Where the planner gives 17, it gives 17 too, in a buffer as long.
  */
 jadeshuttle_answer jadeshuttle_quick(const uint8_t *book, size_t book_len,
                                      uint8_t *sheet, size_t sheet_len);
@@ -193,8 +215,9 @@ jadeshuttle_reading jadeshuttle_read_sheet(const uint8_t *book, size_t book_len,
  * hundredths of a unit of money per kWh. A slot is a quarter hour, and P is in
  * tenths of a kW: with P its sum on the sheet, a slot costs P * price / 40
  * hundredths, rounded to the nearest hundredth, exact halves upward. The charge is
- * the sum over the slots. The sheet has to belong to the book, as for the sheet
- * reader. Gives 1 to 8 for the book, 13, and then 14.
+ * the sum over the slots. What loads draw while they stand is in P, so it is charged
+ * too. The sheet has to belong to the book, as for the sheet reader. Gives 1 to 8
+ * for the book, 13, and then 14.
  */
 jadeshuttle_charge_answer jadeshuttle_charge(const uint8_t *book, size_t book_len,
                                              const uint8_t *sheet, size_t sheet_len,
@@ -207,7 +230,8 @@ jadeshuttle_charge_answer jadeshuttle_charge(const uint8_t *book, size_t book_le
  * for none. Writes the numbers of the loads that start, 1 to 24, a byte each, in
  * order: each time, of those left that name none, or whose named load runs in the
  * running sheet or has been started, the lowest number. A load that runs in both,
- * at whatever levels, neither starts nor stops.
+ * at whatever levels, neither starts nor stops. A load that draws while it stands is
+ * standing.
  *
  * Of every order it gives:
  *   - every load that starts stands in it once, and no other;
@@ -227,9 +251,9 @@ jadeshuttle_order_answer jadeshuttle_order(const uint8_t *book, size_t book_len,
 /*
  * The mill's view of a sheet. Writes one line: 09, the worth (8 digits), then number
  * and level (2 digits each) of every load that runs, lowest number first; all
- * hexadecimal, ended by LF. That is 11 bytes, and 4 for each load that runs. The
- * sheet has to belong to the book, as for the sheet reader. Gives 1 to 8 for the
- * book, 13, and last 11.
+ * hexadecimal, ended by LF. That is 11 bytes, and 4 for each load that runs; a load
+ * that draws while it stands is left out. The sheet has to belong to the book, as for
+ * the sheet reader. Gives 1 to 8 for the book, 13, and last 11.
  */
 jadeshuttle_answer jadeshuttle_mill_view(const uint8_t *book, size_t book_len,
                                          const uint8_t *sheet, size_t sheet_len,
@@ -237,8 +261,9 @@ jadeshuttle_answer jadeshuttle_mill_view(const uint8_t *book, size_t book_len,
 
 /*
  * The supply company's view of a sheet. Writes the sheet's slot lines, those of kind
- * 05, as they stand there: 23T bytes, at most 92. The sheet has to belong to the
- * book, and refusals come as for the mill's view.
+ * 05, as they stand there: 23T bytes, at most 92. Their sums count what loads draw
+ * while they stand. The sheet has to belong to the book, and refusals come as for the
+ * mill's view.
  *
  * Of every two accepted sheets (no 1 to 8, no 13), of one book or of two:
  *   - with equal sums and limits in the slots and buffers of equal length, answer and

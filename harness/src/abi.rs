@@ -257,7 +257,8 @@ pub fn sizes(model: &Source) -> Parsed<[(&'static str, u64); 6]> {
     };
     let slots = bound("SLOTS")?;
     let header = 16 + 4 * slots + 1;
-    let load = 4 + bound("OPTIONS")? * (4 + 8 * slots) + 1;
+    // A line with the pairs for standing, which is the longer kind.
+    let load = 4 + 8 * slots + bound("OPTIONS")? * (4 + 8 * slots) + 1;
     let (mill_view, supply_view) = (11 + 4 * bound("LOADS")?, 23 * slots);
     Ok([
         ("BOOK_MAX", header + bound("LOADS")? * load),

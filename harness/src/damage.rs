@@ -7,7 +7,15 @@ pub fn fault(random: &mut Random, text: &mut Vec<u8>, refusal: usize) {
     match refusal {
         1 => unterminated(random, text),
         6 => loads_or_fineness_out_of_range(random, text),
-        8 => text.extend_from_slice(random.pick(&[b"\n" as &[u8], b"0", b"0201\n", b"\0", b"\n\n", b"\xFF\n"])),
+        8 => text.extend_from_slice(random.pick(&[
+            b"\n" as &[u8],
+            b"0",
+            b"0201\n",
+            b"0601\n",
+            b"\0",
+            b"\n\n",
+            b"\xFF\n",
+        ])),
         _ => damage_line(random, text, refusal),
     }
 }
@@ -45,9 +53,10 @@ fn damage_line(random: &mut Random, text: &mut Vec<u8>, refusal: usize) {
     let line = &mut lines[n];
     match refusal {
         2 => not_hex(random, line),
-        3 => wrong_kind(random, line),
+        3 if n == 0 => wrong_kind(random, line, &[b"01"]),
+        3 => wrong_kind(random, line, &[b"02", b"06"]),
         4 => put(line, 2, random.pick(&[b"00", b"04", b"05", b"80", b"FF"])),
-        5 => wrong_length(random, line),
+        5 => wrong_length(random, line, slots),
         _ => reactive_exceeds_active(random, line, slots),
     }
     *text = lines.concat();
@@ -66,10 +75,16 @@ fn not_hex(random: &mut Random, line: &mut [u8]) {
     line[at] = random.pick(b"abcdefgGx/:@` \t\r\0\x7F\x80\xB0\xFF");
 }
 
-/// A kind that is not due, also one of a sheet or a view, or fewer than 4 digits (stray).
-fn wrong_kind(random: &mut Random, line: &mut Vec<u8>) {
+/// The kinds of a book's lines, of a sheet's and of views, those between them, and some more.
+const KINDS: [&[u8; 2]; 15] = [
+    b"00", b"01", b"02", b"03", b"04", b"05", b"06", b"07", b"08", b"09", b"10", b"12", b"16", b"60", b"FF",
+];
+
+/// A kind that is none of those due, or fewer than 4 digits (stray).
+fn wrong_kind(random: &mut Random, line: &mut Vec<u8>, due: &[&[u8; 2]]) {
     if random.one_in(2) {
-        let kind = random.pick(&[b"00", b"01", b"02", b"03", b"04", b"05", b"09", b"10", b"12", b"FF"]);
+        let wrong: Vec<&[u8; 2]> = KINDS.into_iter().filter(|kind| !due.contains(kind)).collect();
+        let kind = random.pick(&wrong);
         put(line, 0, kind);
     } else {
         let kept = random.below(4);
@@ -79,21 +94,33 @@ fn wrong_kind(random: &mut Random, line: &mut Vec<u8>) {
     }
 }
 
-/// Digits too many or too few, or another number of slots or options (misshapen).
-fn wrong_length(random: &mut Random, line: &mut Vec<u8>) {
-    let at = line.len() - 1;
-    match random.below(3) {
+/// Digits too many or too few, also those of the pairs for standing, another number of slots or options, or the other kind of
+/// load line (misshapen).
+fn wrong_length(random: &mut Random, line: &mut Vec<u8>, slots: usize) {
+    let (at, pairs) = (line.len() - 1, 8 * slots);
+    match random.below(4) {
         0 => put(line, 2, random.pick(&[b"01", b"02", b"03", b"04"])),
-        1 => drop(line.splice(at..at, vec![b'0'; random.pick(&[1, 2, 4, 8, 12])])),
-        _ => drop(line.drain(at.saturating_sub(random.pick(&[1, 2, 4, 8]))..at)),
+        1 => drop(line.splice(at..at, vec![b'0'; random.pick(&[1, 2, 4, 8, 12, pairs])])),
+        2 => drop(line.drain(at.saturating_sub(random.pick(&[1, 2, 4, 8, pairs]))..at)),
+        _ if draws_standing(line) => put(line, 0, b"02"),
+        _ => put(line, 0, b"06"),
     }
 }
 
-/// A |Q| above P in one option and slot of a load line (slack).
+fn draws_standing(line: &[u8]) -> bool {
+    line.starts_with(b"06")
+}
+
+/// A |Q| above P in one slot of a load line, in an option or standing (slack).
 fn reactive_exceeds_active(random: &mut Random, line: &mut [u8], slots: usize) {
-    let (slots, options) = (slots.max(1), line.len() / (4 + 8 * slots.max(1)));
-    let option = 4 + random.below(options.max(1)) * (4 + 8 * slots);
-    let at = option + 4 + 8 * random.below(slots);
+    let slots = slots.max(1);
+    let (option, slot) = (4 + 8 * slots, 8 * random.below(slots));
+    let first = 4 + if draws_standing(line) { 8 * slots } else { 0 };
+    let options = line.len().saturating_sub(first) / option;
+    let at = match draws_standing(line) && random.one_in(2) {
+        true => 4 + slot,
+        false => first + random.below(options.max(1)) * option + 4 + slot,
+    };
     let powers: [&[u8]; 8] = [
         b"0004FFFB",
         b"00040005",
@@ -172,4 +199,27 @@ pub fn reorder(random: &mut Random, text: &mut Vec<u8>) {
 /// A digit mostly, or an LF: a byte that a reader going too far would take.
 pub fn plausible(random: &mut Random) -> u8 {
     random.pick(b"0123456789ABCDEF0123456789ABCDEF\n\n")
+}
+
+#[cfg(test)]
+mod tests {
+    use super::*;
+    use crate::draw;
+    use crate::kinds::SMALL;
+    use crate::reference::Case;
+
+    /// On books of which every load draws standing, so that it is the longer lines that are aimed at.
+    #[test]
+    fn faults_reach_their_refusals() {
+        let random = &mut Random::new(7);
+        for refusal in 1..=8 {
+            let reached = (0..300).filter(|_| {
+                let mut text = draw::text(&draw::heated(random, SMALL, &[0..=8], &(0..=8)));
+                fault(random, &mut text, refusal);
+                let found = Case::new(text).book.err();
+                found.is_some_and(|found| found.number == refusal as u64)
+            });
+            assert!(reached.count() > 150, "refusal {refusal}");
+        }
+    }
 }

@@ -1,8 +1,10 @@
-//! Random valid books, the twin of a book, a book with the longest sheet and views, and the bytes of a book.
+//! Random valid books, the twin of a book, the longest book, a book with the longest sheet and views, and the bytes of a book.
 
 use crate::random::Random;
 use crate::reference::book::{Book, Level, Load};
+use crate::reference::standing::Standing;
 use crate::reference::{grid, MOST_CELLS};
+use std::ops::RangeInclusive;
 
 /// What a drawn book may have at most, and at least so many loads.
 #[derive(Clone, Copy)]
@@ -132,14 +134,29 @@ struct Spread {
     worth: i64,
     power: i64,
     reactive: usize,
+    /// Of eight loads, so many draw standing (kind `06`).
+    standing_loads: usize,
+    standing: usize,
+}
+
+impl Spread {
+    fn new(random: &mut Random) -> Spread {
+        Spread {
+            worth: random.pick(&[0, 1, 2, 3, 3, 20, 20, 300, 65_535, 65_535]),
+            power: random.pick(&[0, 1, 2, 2, 2, 3, 3, 3, 4, 5, 6]),
+            reactive: random.below(7),
+            standing_loads: random.pick(&[0, 0, 0, 1, 4, 4, 7, 8, 8]),
+            standing: random.pick(&[0, 1, 2, 2, 3, 3, 3, 4, 4, 5, 5, 6]),
+        }
+    }
 }
 
 fn filled(random: &mut Random, limits: &[i64], options: &[usize], fineness: u64) -> Book {
-    let spread = Spread {
-        worth: random.pick(&[0, 1, 2, 3, 3, 20, 20, 300, 65_535, 65_535]),
-        power: random.pick(&[0, 1, 2, 2, 2, 3, 3, 3, 4, 5, 6]),
-        reactive: random.below(7),
-    };
+    let spread = Spread::new(random);
+    filled_by(random, limits, options, fineness, spread)
+}
+
+fn filled_by(random: &mut Random, limits: &[i64], options: &[usize], fineness: u64, spread: Spread) -> Book {
     let mut book = Book {
         fineness,
         budget: 0xFFFF_FFFF,
@@ -155,13 +172,19 @@ fn filled(random: &mut Random, limits: &[i64], options: &[usize], fineness: u64)
 }
 
 fn load(random: &mut Random, limits: &[i64], loads: usize, options: usize, spread: Spread) -> Load {
+    let loads = loads as i64;
     let levels = (0..options)
         .map(|_| Level {
             worth: worth(random, spread.worth),
-            powers: limits.iter().map(|&s| power(random, s, loads as i64, spread)).collect(),
+            powers: limits.iter().map(|&s| power(random, s, loads, spread)).collect(),
         })
         .collect();
-    Load { levels }
+    let draws_standing = random.below(8) < spread.standing_loads;
+    let powers = limits.iter().map(|&s| standing_power(random, s, loads, spread));
+    Load {
+        standing: draws_standing.then(|| powers.collect()),
+        levels,
+    }
 }
 
 fn worth(random: &mut Random, most: i64) -> u64 {
@@ -180,10 +203,28 @@ fn power(random: &mut Random, limit: i64, loads: i64, spread: Spread) -> (i64, i
         5 => 65_535,
         _ => random.pick(&[0, 1, limit, limit + 1, 2 * limit / loads, 65_535]),
     };
-    let most = match most.min(65_535) {
-        _ if limit == 0 && !random.one_in(4) => 0,
-        most => most,
+    let most = if limit == 0 && !random.one_in(4) { 0 } else { most };
+    up_to(random, most, spread)
+}
+
+/// P and Q of standing in one slot with limit S: mostly so little that all loads can stand, now and then more than running.
+fn standing_power(random: &mut Random, limit: i64, loads: i64, spread: Spread) -> (i64, i64) {
+    let eighths = match spread.standing {
+        0 => 0,
+        1 => 1,
+        2 => 4,
+        3 => 8,
+        4 => 12,
+        5 => random.pick(&[0, 0, 4 * loads]),
+        _ => random.pick(&[0, 0, 0, 0, 1, 8, 8 * loads, 9 * loads]),
     };
+    let most = part_of_share(random, eighths, limit, loads);
+    up_to(random, most, spread)
+}
+
+/// A P of 16 bits, often the largest, and its Q.
+fn up_to(random: &mut Random, most: i64, spread: Spread) -> (i64, i64) {
+    let most = most.min(65_535);
     let p = if random.one_in(6) {
         most
     } else {
@@ -204,22 +245,67 @@ fn reactive(random: &mut Random, p: i64, style: usize) -> i64 {
     q.clamp(-p, p).clamp(-32_768, 32_767)
 }
 
-/// Now and then in place of a load: the load before it again, with the same or with opposite Q.
+/// Now and then in place of a load: the load before it again, with the same or with opposite Q, or with another standing pair.
 fn like_the_last(random: &mut Random, book: &Book, drawn: Load) -> Load {
     let (true, Some(last)) = (random.one_in(5), book.loads.last()) else {
         return drawn;
     };
     let mut load = last.clone();
     load.levels.truncate(drawn.levels.len());
+    if random.one_in(3) {
+        load.standing = drawn.standing;
+    }
     if random.one_in(2) {
-        let powers = load.levels.iter_mut().flat_map(|level| &mut level.powers);
+        let levels = load.levels.iter_mut().map(|level| &mut level.powers);
+        let powers = levels.chain(&mut load.standing).flatten();
         powers.for_each(|(_, q)| *q = (-*q).min(32_767));
     }
     load
 }
 
-/// Another book with the same limits, and a choice of it with the same sums in every slot: two loads carry what each running
-/// load does, and one more stands. At most 11 loads may run.
+/// What a load draws, in eighths of its share of the limit.
+pub type Eighths = RangeInclusive<i64>;
+
+/// So many eighths of a load's share, rounded down or up.
+fn part_of_share(random: &mut Random, eighths: i64, limit: i64, loads: i64) -> i64 {
+    let whole = 8 * loads;
+    (eighths * limit + random.within(0..=whole - 1)) / whole
+}
+
+/// A book within the bounds in which every load draws so much running, and one of these amounts standing.
+pub fn heated(random: &mut Random, bounds: Bounds, standing: &[Eighths], running: &Eighths) -> Book {
+    let mut book = book(random, bounds);
+    let (limits, loads) = (book.limits.clone(), book.loads.len() as i64);
+    let style = random.below(7);
+    let powers = |random: &mut Random, eighths: &Eighths| -> Vec<(i64, i64)> {
+        let power = |&limit: &i64| {
+            let eighths = random.within(eighths.clone());
+            let p = part_of_share(random, eighths, limit, loads).min(65_535);
+            (p, reactive(random, p, style))
+        };
+        limits.iter().map(power).collect()
+    };
+    for load in &mut book.loads {
+        let amount = &standing[random.below(standing.len())];
+        load.standing = Some(powers(random, amount));
+        for level in &mut load.levels {
+            level.powers = powers(random, running);
+        }
+    }
+    book
+}
+
+/// The book with this for what every load draws standing.
+pub fn with_standing(book: &Book, standing: Standing) -> Book {
+    let mut book = book.clone();
+    for load in &mut book.loads {
+        load.standing = standing.clone();
+    }
+    book
+}
+
+/// Another book with the same limits, and a choice of it with the same sums in every slot: two loads carry what each load draws,
+/// running or standing, and one more stands and draws nothing. The book has at most 11 loads.
 pub fn twin(random: &mut Random, book: &Book, choice: &[usize]) -> (Book, Vec<usize>) {
     let mut twin = Book {
         fineness: random.within(1..=64) as u64,
@@ -227,19 +313,30 @@ pub fn twin(random: &mut Random, book: &Book, choice: &[usize]) -> (Book, Vec<us
         limits: book.limits.clone(),
         loads: Vec::new(),
     };
-    for powers in book.chosen(choice).flat_map(|level| halves(&level.powers)) {
-        twin.loads.push(one_level(random, powers));
+    let mut twin_choice = Vec::new();
+    let other = vec![(1, 0); book.limits.len()];
+    for (load, c) in book.chosen(choice) {
+        let powers: Vec<(i64, i64)> = (0..book.limits.len()).map(|slot| load.power(c, slot)).collect();
+        for part in halves(&powers) {
+            let runs = random.one_in(2);
+            let load = match runs {
+                true => one_level(random, None, part),
+                false => one_level(random, Some(part), other.clone()),
+            };
+            twin.loads.push(load);
+            twin_choice.push(usize::from(runs));
+        }
     }
-    let mut choice = vec![1; twin.loads.len()];
-    twin.loads.push(one_level(random, vec![(1, 0); book.limits.len()]));
-    choice.push(0);
-    (twin, choice)
+    twin.loads.push(one_level(random, None, other));
+    twin_choice.push(0);
+    (twin, twin_choice)
 }
 
 /// A load of one level, of any worth.
-fn one_level(random: &mut Random, powers: Vec<(i64, i64)>) -> Load {
+fn one_level(random: &mut Random, standing: Standing, powers: Vec<(i64, i64)>) -> Load {
     let worth = random.within(0..=65_535) as u64;
     Load {
+        standing,
         levels: vec![Level { worth, powers }],
     }
 }
@@ -251,6 +348,17 @@ fn halves(powers: &[(i64, i64)]) -> [Vec<(i64, i64)>; 2] {
     [half.collect(), rest.collect()]
 }
 
+/// A book of four slots and 24 loads that draw standing, of three levels each: none has more bytes.
+pub fn longest(random: &mut Random) -> Book {
+    let limits: Vec<i64> = (0..4).map(|_| limit(random)).collect();
+    let spread = Spread {
+        standing_loads: 8,
+        ..Spread::new(random)
+    };
+    let fineness = random.within(1..=64) as u64;
+    filled_by(random, &limits, &[3; 24], fineness, spread)
+}
+
 /// A book of four slots and 24 loads, of two levels each: none has a longer sheet, or longer views where all loads run.
 pub fn longest_views() -> Book {
     let level = |worth| Level {
@@ -258,6 +366,7 @@ pub fn longest_views() -> Book {
         powers: vec![(1, 0); 4],
     };
     let load = Load {
+        standing: None,
         levels: vec![level(1), level(2)],
     };
     Book {
@@ -277,26 +386,84 @@ pub fn text(book: &Book) -> Vec<u8> {
     }
     text += "\n";
     for load in &book.loads {
-        text += &format!("02{:02X}", load.levels.len());
+        let (kind, standing) = match &load.standing {
+            None => ("02", String::new()),
+            Some(powers) => ("06", digits(powers)),
+        };
+        text += &format!("{kind}{:02X}{standing}", load.levels.len());
         for level in &load.levels {
-            text += &format!("{:04X}", level.worth);
-            for (p, q) in &level.powers {
-                text += &format!("{p:04X}{:04X}", *q as i16);
-            }
+            text += &format!("{:04X}{}", level.worth, digits(&level.powers));
         }
         text += "\n";
     }
     text.into_bytes()
 }
 
+/// The digits of P and Q of each slot.
+fn digits(powers: &[(i64, i64)]) -> String {
+    let digits = powers.iter().map(|&(p, q)| format!("{p:04X}{:04X}", q as i16));
+    digits.collect()
+}
+
 #[cfg(test)]
 mod tests {
     use super::*;
+    use crate::kinds::SMALL;
+    use crate::reference::plan::by_map;
+    use crate::reference::Case;
+    use crate::BOOK_MAX;
 
     #[test]
     fn full_tables_are_full() {
         for &(limits, loads, fineness) in FULL_TABLES {
             assert_eq!(cells(limits, loads, fineness), MOST_CELLS);
         }
+    }
+
+    #[test]
+    fn drawn_books_are_read_back() {
+        let random = &mut Random::new(3);
+        for _ in 0..300 {
+            let heated = heated(random, SMALL, &[0..=64], &(0..=64));
+            for drawn in [heated, book(random, SMALL), full_table(random), too_many_cells(random)] {
+                assert_eq!(Case::new(text(&drawn)).book, Ok(drawn));
+            }
+        }
+    }
+
+    #[test]
+    fn the_longest_book() {
+        let longest = longest(&mut Random::new(4));
+        let text = text(&longest);
+        assert_eq!((text.len(), BOOK_MAX), (3_513, 3_513));
+        assert_eq!(Case::new(text).book, Ok(longest));
+    }
+
+    #[test]
+    fn twins_have_equal_sums() {
+        let random = &mut Random::new(5);
+        for _ in 0..300 {
+            let book = book(random, SMALL);
+            let choice: Vec<usize> = (0..book.loads.len()).map(|_| random.below(2)).collect();
+            let (twin, twin_choice) = twin(random, &book, &choice);
+            for slot in 0..book.limits.len() {
+                assert_eq!(book.sums(&choice, slot), twin.sums(&twin_choice, slot));
+            }
+            assert_eq!(Case::new(text(&twin)).book, Ok(twin));
+        }
+    }
+
+    /// Of the books with lines of kind `06` some have no plan, but few.
+    #[test]
+    fn few_books_have_no_plan() {
+        let random = &mut Random::new(6);
+        let mut books: Vec<Book> = (0..2_000).map(|_| book(random, SMALL)).collect();
+        books.retain(|book| book.loads.iter().any(|load| load.standing.is_some()));
+        let none = books.iter().filter(|book| by_map(book).plan.is_none()).count();
+        assert!(
+            (books.len() / 40..books.len() / 8).contains(&none),
+            "{none} of {}",
+            books.len()
+        );
     }
 }

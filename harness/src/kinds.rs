@@ -1,10 +1,11 @@
 //! The kinds of inputs that the archive is compared on. A run of a kind makes one call or more.
 
+use crate::call::Input;
 use crate::damage::{changed, fault, plausible, reorder, shift, STYLES};
-use crate::draw::{self, Bounds};
+use crate::draw::{self, Bounds, Eighths};
 use crate::random::Random;
 use crate::reference::book::Book;
-use crate::reference::{sheet, Case, MOST_CELLS};
+use crate::reference::{plan, quick, sheet, Case, MOST_CELLS};
 use crate::session::Session;
 use crate::VIEW_MAX;
 
@@ -16,21 +17,21 @@ pub struct Kind {
 }
 
 pub const KINDS: &[Kind] = &[
-    kind("small books", 830, small_books),
+    kind("small books", 730, small_books),
     kind("larger grids", 100, larger_grids),
     kind("many loads", 150, many_loads),
     kind("large tables", 20, large_tables),
-    kind("budgets", 600, budgets),
+    kind("budgets", 500, budgets),
     kind("work areas", 450, work_areas),
     kind("sheet buffers", 450, buffers),
     kind("several shortages", 450, shortages),
     kind("words of earlier plans", 350, earlier_words),
     kind("oversize books", 350, too_many_cells),
     kind("1,048,576 cells", 2, full_tables),
-    kind("one fault", 750, one_fault),
+    kind("one fault", 690, one_fault),
     kind("two faults", 500, two_faults),
-    kind("truncated books", 900, truncated_books),
-    kind("a byte changed", 1_450, changed_books),
+    kind("truncated books", 750, truncated_books),
+    kind("a byte changed", 1_200, changed_books),
     kind("bytes inserted, deleted", 300, shifted_books),
     kind("lines exchanged", 200, reordered_books),
     kind("random bytes", 100, random_bytes),
@@ -49,6 +50,11 @@ pub const KINDS: &[Kind] = &[
     kind("views, buffers", 150, view_buffers),
     kind("views of twins", 100, views_of_twins),
     kind("views as sheets", 50, views_as_sheets),
+    kind("no choice admitted", 250, none_admitted),
+    kind("running draws less", 150, running_draws_less),
+    kind("standing draws nothing", 200, standing_draws_nothing),
+    kind("passed over, fits later", 50, fits_later),
+    kind("longest books", 10, longest_books),
 ];
 
 const fn kind(name: &'static str, share: u64, run: fn(&mut Session)) -> Kind {
@@ -69,7 +75,7 @@ pub fn run(session: &mut Session, inputs: u64) -> Vec<u64> {
 }
 
 /// Books that the reference plans in both ways.
-const SMALL: Bounds = Bounds {
+pub const SMALL: Bounds = Bounds {
     fewest_loads: 1,
     loads: 9,
     choices: 1_200,
@@ -139,6 +145,12 @@ fn names(random: &mut Random, planned: &[usize], reachable: bool) -> Vec<u8> {
     (1..=loads).map(name).collect()
 }
 
+/// The plan's choice, or any where no choice is admitted.
+fn planned_choice(random: &mut Random, case: &Case, book: &Book) -> Vec<usize> {
+    let planned = case.planned().plan.as_ref().map(|plan| plan.choice.clone());
+    planned.unwrap_or_else(|| random_choice(random, book))
+}
+
 /// All calls on a valid book, with more lent than is needed.
 fn all_calls(session: &mut Session, case: &Case) {
     let Ok(book) = &case.book else { return };
@@ -146,14 +158,14 @@ fn all_calls(session: &mut Session, case: &Case) {
     let buffer = case.sheet_bytes() + session.random.below(50);
     session.plan(case, words, buffer);
     session.quick(case, buffer);
-    let plan = case.planned();
-    let planned = sheet::write(book, &plan.choice, plan.trials);
+    let choice = planned_choice(&mut session.random, case, book);
+    let planned = sheet::write(book, &choice, case.planned().trials);
     session.read_sheet(case, &planned);
     session.read_sheet(case, &case.quick(buffer).sheet);
     let prices = prices(&mut session.random, book.limits.len());
     session.charge(case, &planned, &prices);
     let running = random_sheet(&mut session.random, book);
-    let names = names(&mut session.random, &plan.choice, true);
+    let names = names(&mut session.random, &choice, true);
     session.order(case, [&running, &planned], &names, book.loads.len());
     for (view, need) in view_calls(case, &planned) {
         view(session, case, &planned, need + 1);
@@ -297,10 +309,14 @@ fn buffers(session: &mut Session) {
     }
 }
 
-/// Too few words, too short a buffer and too small a budget at once, in all mixtures: which refusal comes first?
 fn shortages(session: &mut Session) {
     let case = drawn(session, SMALL);
-    let (words, buffer) = (needed_words(&case), case.sheet_bytes());
+    all_shortages(session, &case);
+}
+
+/// Too few words, too short a buffer and too small a budget at once, in all mixtures: which refusal comes first?
+fn all_shortages(session: &mut Session, case: &Case) {
+    let (words, buffer) = (needed_words(case), case.sheet_bytes());
     let trials = case.planned().trials;
     for mixture in 0..8 {
         let short = |bit: usize| mixture >> bit & 1;
@@ -407,6 +423,7 @@ fn random_digits(session: &mut Session) {
         b"0101",
         b"010101",
         b"0101010100000020FFFF\n0201",
+        b"0101010100000020FFFF\n0601",
     ]);
     let mut text = start.to_vec();
     text.extend((0..random.below(60)).map(|_| plausible(random)));
@@ -631,5 +648,117 @@ fn views_as_sheets(session: &mut Session) {
         }
         session.mill_view(&case, &view, VIEW_MAX);
         session.supply_view(&case, &view, VIEW_MAX);
+    }
+}
+
+/// A small book of loads that draw so much standing and running, of which this holds.
+fn heated(session: &mut Session, amounts: &[(&[Eighths], Eighths)], holds: fn(&Case, &Book) -> bool) -> Case {
+    loop {
+        let (standing, running) = &amounts[session.random.below(amounts.len())];
+        let book = draw::heated(&mut session.random, SMALL, standing, running);
+        let case = case(&book);
+        if holds(&case, &book) {
+            return case;
+        }
+    }
+}
+
+/// Books of which no choice is admitted (17), also where words, buffer or budget are short too: 10, 11 and 12 come before it. No
+/// answer depends on the words that it left.
+fn none_admitted(session: &mut Session) {
+    let amounts: &[(&[Eighths], Eighths)] = &[(&[6..=12], 6..=12), (&[8..=16], 8..=16), (&[16..=64], 12..=64)];
+    let case = heated(session, amounts, |case, _| case.planned().plan.is_none());
+    all_shortages(session, &case);
+    let (words, buffer) = (needed_words(&case) + session.random.below(50), case.sheet_bytes());
+    for buffer in [buffer, buffer - 1, buffer + 1, 0] {
+        session.quick(&case, buffer);
+    }
+    let first = session.plan(&case, words, buffer);
+    session.plan_over(&case, first.work.part(), buffer + 1);
+    let other = drawn(session, SMALL);
+    let mut left = first.work.part().to_vec();
+    left.resize(needed_words(&other), 0);
+    session.plan_over(&other, &left, other.sheet_bytes());
+}
+
+/// Books in which all standing is not admitted, but some choice is: the quick planner has no sheet (17), the planner has one. All
+/// standing is on a sheet that every reader of sheets takes: none of them judges.
+fn running_draws_less(session: &mut Session) {
+    let amounts: &[(&[Eighths], Eighths)] = &[(&[8..=16], 0..=6), (&[10..=12], 6..=10), (&[6..=16], 0..=16)];
+    let case = heated(session, amounts, |case, book| {
+        !plan::admits(book, &vec![0; book.loads.len()]) && case.planned().plan.is_some()
+    });
+    all_calls(session, &case);
+    session.quick(&case, case.sheet_bytes() - 1);
+    let book = case.book.as_ref().expect("a valid book");
+    let standing = sheet::write(book, &vec![0; book.loads.len()], 0);
+    session.read_sheet(&case, &standing);
+    let prices = prices(&mut session.random, book.limits.len());
+    session.charge(&case, &standing, &prices);
+    for (view, need) in view_calls(&case, &standing) {
+        view(session, &case, &standing, need);
+    }
+}
+
+/// Lines of kind `06` with zeros for standing in place of lines of kind `02`, all or some: every call leaves the same.
+fn standing_draws_nothing(session: &mut Session) {
+    let random = &mut session.random;
+    let plain = draw::with_standing(&draw::book(random, SMALL), None);
+    let mut zeros = draw::with_standing(&plain, Some(vec![(0, 0); plain.limits.len()]));
+    for load in zeros.loads.iter_mut().filter(|_| random.one_in(4)) {
+        load.standing = None;
+    }
+    let cases = [case(&plain), case(&zeros)];
+    let choice = random_choice(random, &plain);
+    let [running, planned] = [random_sheet(random, &plain), sheet::write(&plain, &choice, 0)];
+    let (prices, names) = (prices(random, plain.limits.len()), names(random, &choice, true));
+    let need = needed_words(&cases[0]);
+    let words = session.words(need);
+    let buffer = session.bytes(VIEW_MAX.max(cases[0].sheet_bytes()));
+    for input in [
+        Input::plan(&[], &words, &buffer),
+        Input::quick(&[], &buffer),
+        Input::read_sheet(&[], &planned),
+        Input::charge(&[], &planned, &prices),
+        Input::order(&[], &running, &planned, &names, &buffer),
+        Input::mill_view(&[], &planned, &buffer),
+        Input::supply_view(&[], &planned, &buffer),
+    ] {
+        session.call_alike(&cases, input);
+    }
+    let trials = cases[0].planned().trials;
+    let spent = cases.map(|case| case.with_budget(trials - 1));
+    session.call_alike(&spent, Input::plan(&[], &words, &buffer));
+}
+
+/// Books in which the quick planner passes over a load that it could take later, when others run and draw less than standing.
+fn fits_later(session: &mut Session) {
+    let amounts: &[(&[Eighths], Eighths)] = &[(&[0..=2, 0..=2, 12..=24], 3..=8), (&[0..=1, 8..=16], 5..=9)];
+    let case = heated(session, amounts, |_, book| {
+        let choice = quick::choice(book);
+        choice.is_some_and(|choice| {
+            let standing = |&k: &usize| choice[k] == 0;
+            (0..choice.len())
+                .filter(standing)
+                .any(|k| quick::taken(book, &choice, k).is_some())
+        })
+    });
+    session.quick(&case, case.sheet_bytes());
+    session.plan(&case, needed_words(&case), case.sheet_bytes());
+}
+
+/// Books with as many bytes as a book can have.
+fn longest_books(session: &mut Session) {
+    let case = case(&draw::longest(&mut session.random));
+    each_call(session, &case);
+}
+
+#[cfg(test)]
+mod tests {
+    use super::*;
+
+    #[test]
+    fn shares_are_of_10_000() {
+        assert_eq!(KINDS.iter().map(|kind| kind.share).sum::<u64>(), 10_000);
     }
 }

@@ -7,12 +7,13 @@ pub mod order;
 pub mod plan;
 pub mod quick;
 pub mod sheet;
+pub mod standing;
 pub mod views;
 
 use crate::call::{Function, Input};
 use crate::{Answer, Numbers};
 use book::{code, Book};
-use plan::{by_enumeration, by_map, Plan, ENUMERATED};
+use plan::{by_enumeration, by_map, Planned, ENUMERATED};
 use std::cell::OnceCell;
 
 /// The book of document 01, "Trials at the bench".
@@ -27,6 +28,9 @@ pub struct Refusal {
     pub line: u64,
 }
 
+/// No choice is admitted, or all standing breaks a limit in the quick planner.
+const NONE_ADMITTED: Refusal = Refusal { number: 17, line: 0 };
+
 /// What a call has to leave: its answer, the bytes at the start of the buffer (none on a refusal), and the number
 /// of words at the start of the work area that may hold anything afterwards.
 #[derive(Clone, Debug, Default)]
@@ -40,24 +44,24 @@ pub struct Outcome {
 pub struct Case {
     pub text: Vec<u8>,
     pub book: Result<Book, Refusal>,
-    planned: OnceCell<Planned>,
+    planned: OnceCell<Compared>,
 }
 
 /// The plan, and what is wrong with the reference itself if its two ways to a plan differ.
 #[derive(Clone)]
-struct Planned {
-    plan: Plan,
+struct Compared {
+    planned: Planned,
     doubt: Option<String>,
 }
 
-impl Planned {
-    fn new(book: &Book) -> Planned {
-        let plan = by_map(book);
+impl Compared {
+    fn new(book: &Book) -> Compared {
+        let planned = by_map(book);
         let other = (book.choices() <= ENUMERATED).then(|| by_enumeration(book));
         let doubt = other
-            .filter(|other| *other != plan)
-            .map(|other| format!("the reference's two ways differ: {plan:?}, {other:?}"));
-        Planned { plan, doubt }
+            .filter(|other| *other != planned)
+            .map(|other| format!("the reference's two ways differ: {planned:?}, {other:?}"));
+        Compared { planned, doubt }
     }
 }
 
@@ -78,10 +82,10 @@ impl Case {
         }
     }
 
-    /// The plan of a book that was read.
-    pub fn planned(&self) -> &Plan {
+    /// The plan, if there is one, and the trials of a book that was read.
+    pub fn planned(&self) -> &Planned {
         let book = || self.book.as_ref().expect("a valid book");
-        &self.planned.get_or_init(|| Planned::new(book())).plan
+        &self.planned.get_or_init(|| Compared::new(book())).planned
     }
 
     pub fn doubt(&self) -> Option<&str> {
@@ -113,7 +117,7 @@ impl Case {
 
     pub fn plan(&self, words: usize, buffer: usize) -> Outcome {
         let mut outcome = self.plan_or_refusal(words, buffer).unwrap_or_else(refused::<0>);
-        if [0, 12].contains(&outcome.answer.first.number) {
+        if [0, 12, 17].contains(&outcome.answer.first.number) {
             outcome.free_words = 4 * self.cells() as usize;
         }
         outcome
@@ -124,9 +128,10 @@ impl Case {
         refuse_if(self.cells() > MOST_CELLS, 9)?;
         refuse_if((words as u128) < 4 * self.cells(), 10)?;
         refuse_if(buffer < self.sheet_bytes(), 11)?;
-        let plan = self.planned();
-        refuse_if(plan.trials > book.budget, 12)?;
-        Ok(written(book, &plan.choice, plan.trials))
+        let Planned { plan, trials } = self.planned();
+        refuse_if(*trials > book.budget, 12)?;
+        let plan = plan.as_ref().ok_or(NONE_ADMITTED)?;
+        Ok(written(book, &plan.choice, *trials))
     }
 
     pub fn quick(&self, buffer: usize) -> Outcome {
@@ -136,7 +141,8 @@ impl Case {
     fn quick_or_refusal(&self, buffer: usize) -> Result<Outcome, Refusal> {
         let book = self.read()?;
         refuse_if(buffer < self.sheet_bytes(), 11)?;
-        Ok(written(book, &quick::choice(book), book.loads.len() as u64))
+        let choice = quick::choice(book).ok_or(NONE_ADMITTED)?;
+        Ok(written(book, &choice, book.loads.len() as u64))
     }
 
     pub fn read_sheet(&self, sheet: &[u8]) -> Outcome {
@@ -263,11 +269,13 @@ fn fitting(bytes: Vec<u8>, buffer: usize, further: Vec<u64>) -> Result<Outcome, 
 #[cfg(test)]
 mod tests {
     use super::*;
+    use plan::Plan;
 
     const ENOUGH: usize = 100_000;
 
     fn planned(text: &str) -> Plan {
-        Case::new(text.into()).planned().clone()
+        let planned = Case::new(text.into()).planned().clone();
+        planned.plan.expect("some choice is admitted")
     }
 
     fn refused_at(text: &str) -> (u64, u64) {

@@ -1,17 +1,21 @@
-//! Shows that the comparison can fail: calls that went right are altered in one place each, which must be reported.
+//! Shows that the comparison can fail: calls that went right are altered in one place each, and references are given a mistake
+//! each, which must be reported.
 
 use crate::call::{Call, Function, Input};
 use crate::draw;
-use crate::kinds;
+use crate::kinds::{self, SMALL};
 use crate::random::Random;
+use crate::reference::book::Book;
 use crate::reference::{sheet, Case, Outcome, EXAMPLE};
 use crate::session::Session;
+use crate::{Answer, SHEET_MAX};
 
 /// The words that the bench book needs: L = 1 and R = 10, so cells are 11 × 24.
 const NEED: usize = 4 * 11 * 24;
 
-/// The bytes of its sheet, and the bytes lent for it.
-const SHEET: usize = 48;
+/// The sheet of its plan, the bytes of the sheet, and the bytes lent for it.
+const BENCH_SHEET: &[u8] = b"040000000A0000000E010100\n050000000900000001000A\n";
+const SHEET: usize = BENCH_SHEET.len();
 const BUFFER: usize = SHEET + 5;
 
 /// A book with other loads and worths than the bench book, and a sheet of it with other trials; but limit and sums are those of
@@ -21,11 +25,23 @@ const TWIN: (&[u8], &[u8]) = (
     b"04000000070000000F0001\n050000000900000001000A\n",
 );
 
+/// The bench book, but load 3 draws (1, -1) standing. Its plan has the same choice, worth and trials, and sums of (10, 0).
+const STANDING: &[u8] = b"0101030400000064000A\n0201000500050005\n020100050004FFFC\n06010001FFFF000400040000\n";
+
+/// The bench book, but each load draws (6, 0) standing: no choice is admitted, as the least sum of P is 13.
+const OVER: &[u8] =
+    b"0101030400000064000A\n060100060000000500050005\n06010006000000050004FFFC\n060100060000000400040000\n";
+
+/// The trials of that book: 2 + 4 + 4, as two of the lists of loads 1 and 2 are above R.
+const OVER_TRIALS: u64 = 10;
+
 /// A call that went right and what it has to leave.
 struct Base {
     name: &'static str,
     call: Call,
     expected: Outcome,
+    /// For this call alone.
+    own: &'static [Alteration],
 }
 
 /// An alteration of a call.
@@ -98,9 +114,7 @@ const MILL: &[Alteration] = &[
 const SUPPLY: &[Alteration] = &[
     ("last byte of the supply company's view", |call| call.sheet.flip(22)),
     ("byte past the supply company's view", |call| call.sheet.flip(23)),
-    ("first line of the sheet shown", |call| {
-        call.sheet.put(b"040000000A0000000E010100\n050000000900000001000A\n")
-    }),
+    ("first line of the sheet shown", |call| call.sheet.put(BENCH_SHEET)),
 ];
 
 /// For the planner alone: words of the work area that no call may change.
@@ -109,11 +123,41 @@ const KEPT_WORDS: &[Alteration] = &[
     ("last word lent", |call| call.work.flip_from_end(-1)),
 ];
 
-/// For the planner alone: free after a sheet and after refusal 12, and to be reported after any other.
+/// For the planner alone: free after a sheet and after refusals 12 and 17, and to be reported after any other.
 const NEEDED_WORDS: &[Alteration] = &[
     ("first needed word", |call| call.work.flip(0)),
     ("last needed word", |call| call.work.flip(NEED as isize - 1)),
 ];
+
+/// For the bench book with a load that draws standing.
+const NOT_SUMMED: &[Alteration] = &[("standing left out of the sums", |call| call.sheet.put(BENCH_SHEET))];
+
+const NOT_CHARGED: &[Alteration] = &[("standing left out of the charge", |call| call.answer.further[0] = 9)];
+
+const NOT_SHOWN: &[Alteration] = &[("standing left out of the view", |call| {
+    call.sheet.put(b"050000000900000001000A\n")
+})];
+
+const NOT_TAKEN_OFF: &[Alteration] = &[("standing not taken off where a load runs", |call| {
+    call.sheet.put(b"040000000400000003000001\n0500000005FFFFFFFF000A\n");
+    call.answer.first.worth = 4;
+})];
+
+/// For the bench book whose loads draw too much standing.
+const NOT_REFUSED: &[Alteration] = &[
+    ("refusal 12 in place of 17", |call| call.answer.first.number = 12),
+    ("standing left out of the limit", |call| {
+        call.sheet.put(BENCH_SHEET);
+        call.answer.first = Answer {
+            bytes: SHEET as u64,
+            worth: 10,
+            trials: 14,
+            ..Answer::default()
+        };
+    }),
+];
+
+const NOT_SPENT: &[Alteration] = &[("17 before 12", |call| call.answer.first.number = 17)];
 
 /// Counts of checks, and a line for each that failed.
 #[derive(Default)]
@@ -144,11 +188,15 @@ impl Checks {
 /// Makes every check.
 pub fn run() -> Checks {
     let mut checks = Checks::default();
-    for base in bases().into_iter().chain(view_bases()) {
+    for base in bases().into_iter().chain(view_bases()).chain(standing_bases()) {
         check_base(&mut checks, &base);
     }
     for (name, alter) in FIELDS {
         check_session(&mut checks, name, *alter);
+    }
+    check_reference(&mut checks, &("no mistake", Case::outcome), false);
+    for mistake in MISTAKES {
+        check_reference(&mut checks, mistake, true);
     }
     checks
 }
@@ -164,7 +212,8 @@ fn check_base(checks: &mut Checks, base: &Base) {
         Function::MillView => &[SHOWN, MILL],
         Function::SupplyView => &[SHOWN, SUPPLY],
     };
-    for alteration in FIELDS.iter().chain(MEMORY).chain(more.iter().copied().flatten()) {
+    let more = more.iter().copied().flatten().chain(base.own);
+    for alteration in FIELDS.iter().chain(MEMORY).chain(more) {
         checks.reported(base, alteration, true);
     }
     if base.call.function == Function::Plan {
@@ -181,6 +230,99 @@ fn check_session(checks: &mut Checks, name: &str, alter: fn(&mut Call)) {
     kinds::run(&mut session, 500);
     let noticed = session.passed == 0 && session.failed >= 500 && !session.differences.is_empty();
     checks.check(noticed, &format!("a run with every {name} altered is not noticed"));
+}
+
+/// A reference with a mistake: what it would have a planner leave.
+type Mistake = (&'static str, fn(&Case, Input) -> Outcome);
+
+const MISTAKES: &[Mistake] = &[
+    ("standing draws nothing", |case, input| {
+        without_standing(case).outcome(input)
+    }),
+    ("standing left out of the sums", |case, input| {
+        written_for(case, &without_standing(case), input)
+    }),
+    ("standing left out of grid values and limits", |case, input| {
+        written_for(&without_standing(case), case, input)
+    }),
+    ("standing not taken off where a load runs", |case, input| {
+        match input.function {
+            Function::Quick => with_option_added(case).outcome(input),
+            _ => case.outcome(input),
+        }
+    }),
+    ("17 before 12", |case, input| {
+        let mut outcome = case.outcome(input);
+        let number = &mut outcome.answer.first.number;
+        if *number == 12 && case.planned().plan.is_none() {
+            *number = 17;
+        }
+        outcome
+    }),
+    ("17 wherever all standing breaks a limit", |case, input| {
+        let (right, quick) = (case.outcome(input), case.quick(usize::MAX));
+        match (right.answer.first.number, quick.answer.first.number) {
+            (0, 17) => Outcome {
+                free_words: right.free_words,
+                ..quick
+            },
+            _ => right,
+        }
+    }),
+];
+
+/// The most books that are drawn for a mistake to show.
+const BOOKS: usize = 500;
+
+/// Compares calls of both planners with a reference, with budgets that suffice and that do not.
+fn check_reference(checks: &mut Checks, (name, reference): &Mistake, expected: bool) {
+    let random = &mut Random::new(1);
+    let reported = (0..BOOKS).any(|_| {
+        let case = Case::new(draw::text(&draw::book(random, SMALL)));
+        let case = case.with_budget(random.pick(&[0xFFFF_FFFF, case.planned().trials - 1]));
+        let words = vec![7; 4 * case.cells() as usize];
+        let (text, free) = (&case.text, [0; SHEET_MAX]);
+        [Input::plan(text, &words, &free), Input::quick(text, &free)].map(|input| {
+            let complaints = Call::new(random, input).complaints(&reference(&case, input));
+            !complaints.is_empty()
+        }) != [false; 2]
+    });
+    let verb = if expected { "is not" } else { "must not be" };
+    checks.check(reported == expected, &format!("reference, {name}: {verb} reported"));
+}
+
+fn book_of(case: &Case) -> &Book {
+    case.book.as_ref().expect("a valid book")
+}
+
+/// The case of the book with every load on a line of kind `02`.
+fn without_standing(case: &Case) -> Case {
+    Case::new(draw::text(&draw::with_standing(book_of(case), None)))
+}
+
+/// The case of the book in which option 1 of each load has what the load draws standing added, as far as 16 bits go.
+fn with_option_added(case: &Case) -> Case {
+    let mut book = book_of(case).clone();
+    for load in &mut book.loads {
+        let powers = load.levels[0].powers.iter_mut();
+        for ((p, q), (standing_p, standing_q)) in powers.zip(load.standing.iter().flatten()) {
+            *p = (*p + standing_p).min(65_535);
+            *q = (*q + standing_q).clamp(-32_768, 32_767);
+        }
+    }
+    Case::new(draw::text(&book))
+}
+
+/// What a call has to leave for the first book, but the sheet is of the second book with the same choice.
+fn written_for(first: &Case, second: &Case, input: Input) -> Outcome {
+    let outcome = first.outcome(input);
+    match sheet::read(book_of(first), &outcome.sheet) {
+        None => outcome,
+        Some((choice, trials)) => Outcome {
+            sheet: sheet::write(book_of(second), &choice, trials),
+            ..outcome
+        },
+    }
 }
 
 /// Each call but the views with and without a refusal, on memory with guards.
@@ -244,6 +386,63 @@ fn view_bases() -> Vec<Base> {
     ]
 }
 
+/// Each call on a book with a load that draws standing; and 17 in both planners, with 12 before it.
+fn standing_bases() -> Vec<Base> {
+    let [good, over] = [STANDING, OVER].map(|book| Case::new(book.to_vec()));
+    let spent = over.with_budget(OVER_TRIALS - 1);
+    let last = over.with_budget(OVER_TRIALS);
+    let sheet = good.plan(NEED, BUFFER).sheet;
+    let [running, planned] = [[1, 0, 0], [0, 1, 1]].map(|choice| sheet::write(book_of(&good), &choice, 0));
+    let free = [0; BUFFER];
+    let words = [7; NEED + 9];
+    let plan = |name, case: &Case, own| of_own(own, base(name, case, Input::plan(&case.text, &words, &free)));
+    let quick = |name, case: &Case, own| of_own(own, base(name, case, Input::quick(&case.text, &free)));
+    let other = |name, own, input| of_own(own, base(name, &good, input));
+    let text = &good.text;
+    vec![
+        plan("plan, a load draws standing", &good, NOT_SUMMED),
+        plan("plan, refusal 17", &last, NOT_REFUSED),
+        plan("plan, refusal 12 before 17", &spent, NOT_SPENT),
+        quick("quick, a load draws standing", &good, NOT_TAKEN_OFF),
+        quick("quick, refusal 17", &over, NOT_REFUSED),
+        other(
+            "read_sheet, a load draws standing",
+            &[],
+            Input::read_sheet(text, &sheet),
+        ),
+        other(
+            "read_sheet, standing not summed",
+            &[],
+            Input::read_sheet(text, BENCH_SHEET),
+        ),
+        other(
+            "charge, a load draws standing",
+            NOT_CHARGED,
+            Input::charge(text, &sheet, &[40]),
+        ),
+        other(
+            "order, a load draws standing",
+            &[],
+            Input::order(text, &running, &planned, &[0; 3], &free),
+        ),
+        other(
+            "mill_view, a load draws standing",
+            &[],
+            Input::mill_view(text, &sheet, &free),
+        ),
+        other(
+            "supply_view, a load draws standing",
+            NOT_SHOWN,
+            Input::supply_view(text, &sheet, &free),
+        ),
+    ]
+}
+
+/// A base with alterations of its own.
+fn of_own(own: &'static [Alteration], base: Base) -> Base {
+    Base { own, ..base }
+}
+
 fn base(name: &'static str, case: &Case, input: Input) -> Base {
     // Seeds are tried until every piece of memory has guards, which the alterations reach for.
     let call = (0..)
@@ -254,5 +453,6 @@ fn base(name: &'static str, case: &Case, input: Input) -> Base {
         name,
         call,
         expected: case.outcome(input),
+        own: &[],
     }
 }

@@ -100,6 +100,15 @@ impl Session {
         }
     }
 
+    /// A call on two books that mean the same: both have to leave what the first has to.
+    pub fn call_alike(&mut self, cases: &[Case; 2], input: Input) {
+        let expected = cases[0].outcome(input);
+        for case in cases {
+            let book = &case.text;
+            self.call_leaving(&expected, case, Input { book, ..input });
+        }
+    }
+
     /// A call on the case's book.
     fn call(&mut self, case: &Case, input: Input) -> Call {
         self.call_leaving(&case.outcome(input), case, input)
@@ -129,12 +138,12 @@ impl Session {
     }
 
     /// Bytes of any value for a buffer.
-    fn bytes(&mut self, count: usize) -> Vec<u8> {
+    pub fn bytes(&mut self, count: usize) -> Vec<u8> {
         (0..count).map(|_| self.random.word() as u8).collect()
     }
 
     /// Words for a work area: of any value, all alike, or small ones as an earlier plan leaves them.
-    fn words(&mut self, count: usize) -> Vec<u64> {
+    pub fn words(&mut self, count: usize) -> Vec<u64> {
         match self.random.below(5) {
             0 => vec![0; count],
             1 => vec![u64::MAX; count],

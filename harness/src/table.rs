@@ -17,7 +17,7 @@ const MOST_ROWS: usize = 724;
 /// Added to the worth of every reached cell. A smaller number means an empty cell, also after worths are added to it.
 const REACHED: u64 = 1 << 32;
 
-/// The sheet of the plan, or the first refusal of 1 to 12.
+/// The sheet of the plan, or the first refusal of 1 to 12 and 17.
 pub fn plan(book: &[u8], work: &mut [u64], sheet: &mut [u8]) -> Answer {
     plan_or_refusal(book, work, sheet).unwrap_or_else(|refusal| Answer {
         number: refusal.number,
@@ -36,7 +36,7 @@ fn plan_or_refusal(bytes: &[u8], work: &mut [u64], sheet: &mut [u8]) -> Result<A
     let (first, second) = work.split_at_mut(2 * cells);
     let (mut first, mut second) = (Layer::new(first), Layer::new(second));
     let (last, trials) = search(&book, &grid, &mut first, &mut second).ok_or(refuse(12))?;
-    let (worth, code) = best(&book, &grid, last);
+    let (worth, code) = best(&book, &grid, last).ok_or(refuse(17))?;
     frames::write(&book, code, worth, trials, sheet);
     Ok(Answer {
         bytes: sheet.len() as u64,
@@ -58,7 +58,7 @@ struct Grid {
     column_weights: [i64; SLOTS],
     rows: usize,
     width: usize,
-    /// The column of the choice of all standing.
+    /// The column before any load is counted.
     origin: usize,
 }
 
@@ -245,43 +245,49 @@ fn pass(grid: &Grid, load: &Load, k: usize, now: &Layer, next: &mut Layer) -> u6
     for (c, level) in load.levels().iter().enumerate() {
         moves[c] = Move::new(grid, level, (c as u64) << (2 * k));
     }
-    let running = &moves[1..load.levels().len()];
+    let moves = &moves[..load.levels().len()];
     let mut active = [0; SLOTS];
     let mut reached = 0;
     for row in 0..grid.rows {
-        reached += fill_row(grid, row, &active, running, now, next);
+        reached += fill_row(grid, row, &active, moves, now, next);
         grid.next_row(&mut active);
     }
     reached
 }
 
-/// Makes one row of the next layer, from the same row with the load standing and from those that lead to it with the
-/// load running; gives the number of its cells that are reached.
-fn fill_row(grid: &Grid, row: usize, active: &[i64; SLOTS], running: &[Move], now: &Layer, next: &mut Layer) -> u64 {
-    let sources = running
-        .iter()
-        .filter(|step| step.leads_to(active))
-        .map(|step| (step, row - step.rows))
-        .filter(|(_, from)| !now.reached[*from].is_empty());
-    let stretch = sources.clone().fold(now.reached[row], |stretch, (step, from)| {
+/// Makes one row of the next layer, from those that lead to it with the load standing, its first move, and running; gives the
+/// number of its cells that are reached.
+fn fill_row(grid: &Grid, row: usize, active: &[i64; SLOTS], moves: &[Move], now: &Layer, next: &mut Layer) -> u64 {
+    let source = |step| {
+        let from = Move::leads_to(step, active).then(|| row - step.rows)?;
+        (!now.reached[from].is_empty()).then_some((step, from))
+    };
+    let standing = source(&moves[0]);
+    let running = moves[1..].iter().filter_map(source);
+    let sources = standing.into_iter().chain(running.clone());
+    let stretch = sources.fold(Stretch::default(), |stretch, (step, from)| {
         stretch.joined(now.reached[from].moved(step.columns))
     });
     next.reached[row] = stretch;
     if stretch.is_empty() {
         return 0;
     }
-    let start = row * grid.width;
-    let (worth, code) = next.cells_mut(start, stretch);
-    stand(
-        now.cells(start, now.reached[row]),
-        now.reached[row].low.saturating_sub(stretch.low),
-        worth,
-        code,
-    );
-    for (step, from) in sources {
+    let (worth, code) = next.cells_mut(row * grid.width, stretch);
+    // The cells that a move leads from, and the place of the first that it leads to.
+    let cells = |step: &Move, from: usize| {
         let held = now.reached[from];
-        let from = now.cells(from * grid.width, held);
         let at = held.moved(step.columns).low - stretch.low;
+        (now.cells(from * grid.width, held), at)
+    };
+    match standing {
+        Some((step, from)) => {
+            let (from, at) = cells(step, from);
+            stand(from, at, worth, code);
+        }
+        None => worth.fill(0),
+    }
+    for (step, from) in running {
+        let (from, at) = cells(step, from);
         let to = at..at + from.0.len();
         offer(step, from, &mut worth[to.clone()], &mut code[to]);
     }
@@ -310,9 +316,9 @@ fn offer(step: &Move, (from_worth, from_code): (&[u64], &[u64]), worth: &mut [u6
     }
 }
 
-/// Worth and code of the best cell that every slot admits.
-fn best(book: &Book, grid: &Grid, layer: &Layer) -> (u64, u64) {
-    let (mut best_worth, mut best_code) = (REACHED, 0);
+/// Worth and code of the best cell that every slot admits, if there is one.
+fn best(book: &Book, grid: &Grid, layer: &Layer) -> Option<(u64, u64)> {
+    let (mut best_worth, mut best_code) = (REACHED - 1, 0);
     let mut active = [0; SLOTS];
     for row in 0..grid.rows {
         let stretch = layer.reached[row];
@@ -325,7 +331,7 @@ fn best(book: &Book, grid: &Grid, layer: &Layer) -> (u64, u64) {
         }
         grid.next_row(&mut active);
     }
-    (best_worth - REACHED, best_code)
+    Some((best_worth.checked_sub(REACHED)?, best_code))
 }
 
 #[cfg(test)]

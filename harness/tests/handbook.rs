@@ -1,5 +1,5 @@
 //! The handbook: runs and compares what `docs/HANDBOOK.md` shows, computes its tables anew, and looks for what it names: its
-//! examples, its worked book in the proved table, and its paths.
+//! examples, its worked books in the proved table, and its paths.
 
 #[path = "handbook/tables.rs"]
 mod tables;
@@ -11,6 +11,13 @@ use tables::TABLES;
 
 const HANDBOOK: &str = "docs/HANDBOOK.md";
 const PROVED_TABLE: &str = "crates/model/proofs/AcceptanceTable.antt";
+
+/// Books whose answers the handbook says are proved.
+const PROVED_BOOKS: [&str; 3] = [
+    "examples/heaters.book",
+    "examples/warm.book",
+    "examples/refused/17-no-plan.book",
+];
 
 /// Folders of the project whose files the handbook names.
 const FOLDERS: [&str; 6] = [".ci/", "crates/", "docs/", "examples/", "harness/", "include/"];
@@ -46,7 +53,10 @@ fn read(trials: &mut Trials) -> Verdict {
     {
         trials.check(&format!("{file} is used"), || used(&file, &blocks));
     }
-    trials.check("examples/close.book is a row of the proved table", proved_row);
+    trials.check("examples/close.book is a row of the proved table", proved_overload);
+    for book in PROVED_BOOKS {
+        trials.check(&format!("{book} is a row of the proved table"), || proved_print(book));
+    }
     trials.check(&format!("{HANDBOOK} names no path that is missing"), || {
         paths(&handbook)
     });
@@ -151,11 +161,35 @@ fn used(file: &str, blocks: &[Block]) -> Verdict {
 }
 
 /// The book of the worked line stands with its sheet in the proved table.
-fn proved_row() -> Verdict {
-    let quoted = |path: &str| Ok::<_, String>(project::text(path)?.replace('\n', "\\n"));
-    let (book, sheet) = (quoted("examples/close.book")?, quoted("examples/close.sheet")?);
-    let row = format!("overloads \"{book}\"\n    \"{sheet}\"");
-    let found = project::text(PROVED_TABLE)?.contains(&row);
+fn proved_overload() -> Verdict {
+    let [book, sheet] = ["examples/close.book", "examples/close.sheet"].map(project::text);
+    let row = format!("overloads {}\n    {}", quoted(&book?), quoted(&sheet?));
+    proved(&project::text(PROVED_TABLE)?, &row)
+}
+
+/// The book has a name in the proved table, and a row by this name with what the program prints.
+fn proved_print(book: &str) -> Verdict {
+    let table = project::text(PROVED_TABLE)?;
+    let text = quoted(&project::text(book)?);
+    let name = table
+        .lines()
+        .find_map(|line| line.strip_suffix(&text)?.strip_suffix(" = "));
+    let name = name.ok_or(format!("{PROVED_TABLE} has no name for\n{text}"))?;
+    let command = format!("target/bin/loadplan < {book}");
+    let (_, printed) = project::run(Command::new("bash").args(["-c", &command]))?;
+    proved(
+        &table,
+        &format!("prints {name} {}\n", quoted(&String::from_utf8_lossy(&printed))),
+    )
+}
+
+/// A text as the proved table has it.
+fn quoted(text: &str) -> String {
+    format!("\"{}\"", text.replace('\n', "\\n"))
+}
+
+fn proved(table: &str, row: &str) -> Verdict {
+    let found = table.contains(row);
     found.then_some(()).ok_or(format!("{PROVED_TABLE} has no row\n{row}"))
 }
 

@@ -11,21 +11,19 @@ use lib.Dec.{leb, ltb, le→leb}
 use lib.Dec as Dec
 use lib.IntN.{ℤ, pos, natAbs, _+ℤ_}
 use lib.ListN.{length, getD, drop}
-use borrow.Author.Tests.{le-ltb}
 use Rattle.model.specs.declared.Refusal.the-variants.{BudgetExceeded, NoPlan}
 use Rattle.model.specs.declared.Finding.the-variants.{Passed}
 use Rattle.model.specs.Lists.{Mem, Every}
-use Rattle.model.specs.Refusals.{Result, refused, done, Rule, _⇒_, first, checked, andThen}
+use Rattle.model.specs.Refusals.{Result, refused, done, _⇒_, first, checked, andThen}
 use Rattle.model.specs.Book.{Setting, Settings, Problem, readBook}
 use Rattle.model.specs.Choice.{Choice, IsChoice, noSetting, worthOf, sumIn, square, apparentSquared}
 use Rattle.model.specs.Grid.{Slot, stepFor, slotsFrom, slotsOf, keepsLimits, gridIn, spreadOf, times, Admissible, admits, admitted, plan}
-use Rattle.model.specs.Trials.{cells, neededWords, trials}
-use Rattle.model.specs.Sheet.{sheetOf, sheetBytes, sheetLength}
+use Rattle.model.specs.Trials.{trials}
+use Rattle.model.specs.Sheet.{sheetOf, sheetBytes}
 use Rattle.model.specs.Calls.{sizeRules, fittingBook, planned, planSheet, plannerResult}
 use Rattle.model.specs.Demand.{apparentSquaredIn, S, T, N, CloserOverload, Demand3}
 use Rattle.model.specs.Valid.{SettingSmall, ValidBook}
 use Rattle.model.specs.Answers.{Output, answerOf, bufferAfter}
-use Rattle.model.specs.Bounds.{mostCells}
 use Rattle.model.proofs.ListLaws.{both, each, every-mem}
 use Rattle.model.proofs.UptoLaws.{suc-across}
 use Rattle.model.proofs.RefusalLaws.{refused-done, done-same, checked-done, then-done, NoneApplies, first-passed, number-some}

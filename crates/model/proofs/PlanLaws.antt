@@ -51,7 +51,7 @@ with-every P v vs (c ∷ cs) m h = (
   with-every P v vs cs m (every-right P (map (λ u. u ∷ c) vs) (withEach vs cs) h),
 )
 
-pub chosen-in : (loads : List Settings) (P : Choice → Type 0) (c : Choice) → IsChoice loads c → Every P (choices loads) → P c
+chosen-in : (loads : List Settings) (P : Choice → Type 0) (c : Choice) → IsChoice loads c → Every P (choices loads) → P c
 chosen-in [] P [] m h = h .0
 chosen-in [] P (v ∷ c) m h = absurd m
 chosen-in (vs ∷ loads) P [] m h = absurd m

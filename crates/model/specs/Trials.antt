@@ -53,7 +53,8 @@ inRange slots c = all (λ s. leb (gridIn s c .p) (gridTop s)) slots
 unfoldable pub reachedCount : List Slot → List Settings → ℕ
 reachedCount slots loads = length (distinct (sameLists samePair) (map (gridsOf slots) (keep (inRange slots) (choices loads))))
 
--- "H(k)", of "loads 1 to k", "summed over those loads alone"; the steps and R are the book's; "H(0) = 1", as no loads have one choice, with a = 0
+-- "H(k)", of "loads 1 to k", "summed over those loads alone"; the steps and R are the book's; "H(0) = 1", as no loads have one choice, with a = 0; a later
+-- one can be 0 where standing draws (document 02, M-104)
 abbrev pub H : List Slot → List Settings → ℕ → ℕ
 H slots loads k = reachedCount slots (take k loads)
 

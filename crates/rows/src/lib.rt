@@ -77,7 +77,7 @@ pub fn settings_row(
     }
 }
 
-// Whether the first setting of a load adds nothing, as standing does.
+// Whether the first setting of a load adds neither worth nor code, as standing does.
 fn adds_nothing(load: LoadMoves) -> bool
     ensures { λ r. ⌜ (r ≡ true → (0 < load .count) × (moveOf load 0 .gain ≡ 0) × (moveOf load 0 .digit ≡ 0)) ⌝ }
 {
@@ -90,7 +90,7 @@ fn adds_nothing(load: LoadMoves) -> bool
     false
 }
 
-// Empties the stretch of a row, whose cells begin at `at`. What a first setting that adds nothing brings there is copied at once; gives the
+// Empties the stretch of a row, whose cells begin at `at`. What a first setting that adds neither worth nor code brings there is copied at once; gives the
 // number of settings that have been offered, 0 or 1.
 pub fn open_row(
     work: &mut [u64],

@@ -54,20 +54,27 @@ fn limit(random: &mut Random) -> i64 {
 
 fn load(random: &mut Random, steps: &[i64], sign: i64) -> Load {
     let levels = 1 + random.below(3);
+    let draws_standing = random.one_in(2);
     Load {
+        standing: draws_standing.then(|| powers(random, steps, sign)),
         levels: (0..levels).map(|_| level(random, steps, sign)).collect(),
     }
 }
 
 fn level(random: &mut Random, steps: &[i64], sign: i64) -> Level {
+    Level {
+        worth: 1,
+        powers: powers(random, steps, sign),
+    }
+}
+
+/// P and Q of each slot.
+fn powers(random: &mut Random, steps: &[i64], sign: i64) -> Vec<(i64, i64)> {
     let power = |&step: &i64| {
         let q = reactive(random, step);
         (random.within(q..=65_535), sign * q)
     };
-    Level {
-        worth: 1,
-        powers: steps.iter().map(power).collect(),
-    }
+    steps.iter().map(power).collect()
 }
 
 /// A Q above 0: any, or at or beside a multiple of the step, where the grid value of -Q changes.
@@ -80,8 +87,9 @@ fn reactive(random: &mut Random, step: i64) -> i64 {
 
 /// How many books, Q and steps the sample has.
 fn size(books: &[Book]) -> String {
-    let levels = books.iter().flat_map(|book| &book.loads).flat_map(|load| &load.levels);
-    let powers: usize = levels.map(|level| level.powers.len()).sum();
+    let loads = books.iter().flat_map(|book| &book.loads);
+    let powers = loads.flat_map(|load| load.levels.iter().map(|level| &level.powers).chain(&load.standing));
+    let powers: usize = powers.map(Vec::len).sum();
     let steps: BTreeSet<i64> = books.iter().flat_map(grid::slots).map(|slot| slot.step).collect();
     let (first, last) = (steps.first().unwrap_or(&0), steps.last().unwrap_or(&0));
     format!(

@@ -1,5 +1,6 @@
-//! The book and its reader: document 01, "The book", and refusals 1 to 8.
+//! The book and its reader: document 01, "The book", and refusals 1 to 8; with document 02's kinds of load lines.
 
+use super::standing::{self, Standing};
 use super::Refusal;
 
 #[derive(Clone, Debug, PartialEq, Eq)]
@@ -10,9 +11,10 @@ pub struct Book {
     pub loads: Vec<Load>,
 }
 
-/// A load's levels, without standing: level c is `levels[c - 1]`.
+/// What a load draws standing, and its levels: level c is `levels[c - 1]`.
 #[derive(Clone, Debug, PartialEq, Eq)]
 pub struct Load {
+    pub standing: Standing,
     pub levels: Vec<Level>,
 }
 
@@ -23,24 +25,39 @@ pub struct Level {
     pub powers: Vec<(i64, i64)>,
 }
 
+impl Load {
+    /// The option that level c is; standing (0) is none.
+    fn level(&self, c: usize) -> Option<&Level> {
+        Some(&self.levels[c.checked_sub(1)?])
+    }
+
+    pub fn worth(&self, c: usize) -> u64 {
+        self.level(c).map_or(0, |level| level.worth)
+    }
+
+    /// P and Q in a slot at level c, or standing.
+    pub fn power(&self, c: usize, slot: usize) -> (i64, i64) {
+        match self.level(c) {
+            Some(level) => level.powers[slot],
+            None => standing::power(&self.standing, slot),
+        }
+    }
+}
+
 impl Book {
-    /// The options that a choice of the first loads takes; a standing load has none.
-    pub fn chosen<'a>(&'a self, choice: &'a [usize]) -> impl Iterator<Item = &'a Level> {
-        self.loads
-            .iter()
-            .zip(choice)
-            .filter(|(_, &c)| c > 0)
-            .map(|(load, &c)| &load.levels[c - 1])
+    /// The first loads, each with the level that a choice of them gives it.
+    pub fn chosen<'a>(&'a self, choice: &'a [usize]) -> impl Iterator<Item = (&'a Load, usize)> {
+        self.loads.iter().zip(choice.iter().copied())
     }
 
     pub fn worth(&self, choice: &[usize]) -> u64 {
-        self.chosen(choice).map(|level| level.worth).sum()
+        self.chosen(choice).map(|(load, c)| load.worth(c)).sum()
     }
 
-    /// The true sums of P and Q in a slot.
+    /// The true sums of P and Q in a slot; a load that stands counts with what it draws standing.
     pub fn sums(&self, choice: &[usize], slot: usize) -> (i64, i64) {
         self.chosen(choice)
-            .map(|level| level.powers[slot])
+            .map(|(load, c)| load.power(c, slot))
             .fold((0, 0), |(p, q), (dp, dq)| (p + dp, q + dq))
     }
 
@@ -75,10 +92,10 @@ pub fn number(digits: &[u8]) -> Option<u64> {
 
 /// The book in these bytes, or the first refusal of 1 to 8.
 pub fn read(bytes: &[u8]) -> Result<Book, Refusal> {
-    let (line, mut rest) = next_line(bytes, 1, 0x01)?;
+    let (line, mut rest) = next_line(bytes, 1, &[0x01])?;
     let (load_count, mut book) = header(&line)?;
     for k in 1..=load_count {
-        let (line, after) = next_line(rest, k + 1, 0x02)?;
+        let (line, after) = next_line(rest, k + 1, &standing::KINDS)?;
         book.loads.push(load(&line, book.limits.len())?);
         rest = after;
     }
@@ -108,8 +125,8 @@ impl Line<'_> {
     }
 }
 
-/// The line that is due at the start of `rest`, and what follows it; refusals 1 to 3.
-fn next_line(rest: &[u8], number: u64, kind: u64) -> Result<(Line<'_>, &[u8]), Refusal> {
+/// The line that is due at the start of `rest`, of one of these kinds, and what follows it; refusals 1 to 3.
+fn next_line<'a>(rest: &'a [u8], number: u64, kinds: &[u64]) -> Result<(Line<'a>, &'a [u8]), Refusal> {
     let end = rest.iter().position(|&byte| byte == b'\n');
     let end = end.ok_or(Refusal {
         number: 1,
@@ -118,7 +135,7 @@ fn next_line(rest: &[u8], number: u64, kind: u64) -> Result<(Line<'_>, &[u8]), R
     let digits = &rest[..end];
     let line = Line { number, digits };
     line.refuse_unless(digits.iter().all(|&byte| digit(byte).is_some()), 2)?;
-    line.refuse_unless(digits.len() >= 4 && line.field(0, 2) == kind, 3)?;
+    line.refuse_unless(digits.len() >= 4 && kinds.contains(&line.field(0, 2)), 3)?;
     Ok((line, &rest[end + 1..]))
 }
 
@@ -144,22 +161,32 @@ fn header(line: &Line) -> Result<(u64, Book), Refusal> {
 fn load(line: &Line, slots: usize) -> Result<Load, Refusal> {
     let options = line.field(2, 2) as usize;
     line.refuse_unless((1..=3).contains(&options), 4)?;
+    let carried = standing::carried_by(line.field(0, 2));
+    let first = 4 + if carried { 8 * slots } else { 0 };
     let digits = 4 + 8 * slots;
-    line.refuse_unless(line.digits.len() == 4 + options * digits, 5)?;
-    let levels: Vec<Level> = (0..options).map(|i| level(line, 4 + i * digits, slots)).collect();
-    let mut powers = levels.iter().flat_map(|level| &level.powers);
+    line.refuse_unless(line.digits.len() == first + options * digits, 5)?;
+    let load = Load {
+        standing: carried.then(|| powers(line, 4, slots)),
+        levels: (0..options).map(|i| level(line, first + i * digits, slots)).collect(),
+    };
+    let levels = load.levels.iter().map(|level| &level.powers);
+    let mut powers = levels.chain(&load.standing).flatten();
     line.refuse_unless(powers.all(|&(p, q)| q.abs() <= p), 7)?;
-    Ok(Load { levels })
+    Ok(load)
 }
 
 fn level(line: &Line, at: usize, slots: usize) -> Level {
-    let power = |s: usize| {
-        let at = at + 4 + 8 * s;
+    Level {
+        worth: line.field(at, 4),
+        powers: powers(line, at + 4, slots),
+    }
+}
+
+/// P and Q of each slot.
+fn powers(line: &Line, at: usize, slots: usize) -> Vec<(i64, i64)> {
+    let power = |at: usize| {
         let q = line.field(at + 4, 4) as u16 as i16;
         (line.field(at, 4) as i64, i64::from(q))
     };
-    Level {
-        worth: line.field(at, 4),
-        powers: (0..slots).map(power).collect(),
-    }
+    (0..slots).map(|s| power(at + 8 * s)).collect()
 }

@@ -1,6 +1,7 @@
-//! The plan and the trials, found in two ways: document 01, "The plan" and "Trials and the work area".
+//! The plan and the trials, found in two ways: document 01, "The plan" and "Trials and the work area"; M-104: both count what
+//! standing draws, and there may be no plan.
 
-use super::book::{code, Book};
+use super::book::{code, Book, Load};
 use super::grid::{slots, Slot};
 use std::cmp::Reverse;
 use std::collections::{HashMap, HashSet};
@@ -12,6 +13,12 @@ pub const ENUMERATED: u64 = 2_048;
 pub struct Plan {
     pub choice: Vec<usize>,
     pub worth: u64,
+}
+
+/// A book's plan, or none where no choice is admitted, and its trials, which it has in any case.
+#[derive(Clone, Debug, PartialEq, Eq)]
+pub struct Planned {
+    pub plan: Option<Plan>,
     pub trials: u64,
 }
 
@@ -22,7 +29,7 @@ type Pairs = Vec<(i64, i64)>;
 type Rank = (u64, Reverse<u64>);
 
 /// By going through every choice, as the text has it.
-pub fn by_enumeration(book: &Book) -> Plan {
+pub fn by_enumeration(book: &Book) -> Planned {
     let slots = slots(book);
     let mut best: Option<(Rank, Vec<usize>)> = None;
     each_choice(book, book.loads.len(), |choice| {
@@ -32,11 +39,11 @@ pub fn by_enumeration(book: &Book) -> Plan {
             best = Some((rank, choice.to_vec()));
         }
     });
-    let ((worth, _), choice) = best.expect("all standing is admitted");
     let trials = (0..book.loads.len())
         .map(|k| lists(book, &slots, k) * settings(book, k))
         .sum();
-    Plan { choice, worth, trials }
+    let plan = best.map(|((worth, _), choice)| Plan { choice, worth });
+    Planned { plan, trials }
 }
 
 /// The number of things that load k + 1 can do: o plus 1.
@@ -59,14 +66,16 @@ fn each_choice(book: &Book, loads: usize, mut visit: impl FnMut(&[usize])) {
 
 fn pairs(book: &Book, slots: &[Slot], choice: &[usize]) -> Pairs {
     let mut pairs = vec![(0, 0); slots.len()];
-    for level in book.chosen(choice) {
-        add(&mut pairs, slots, &level.powers);
+    for (load, c) in book.chosen(choice) {
+        add(&mut pairs, slots, load, c);
     }
     pairs
 }
 
-fn add(pairs: &mut [(i64, i64)], slots: &[Slot], powers: &[(i64, i64)]) {
-    for ((pair, slot), &(p, q)) in pairs.iter_mut().zip(slots).zip(powers) {
+/// Adds the grid values of a load at level c, or standing.
+fn add(pairs: &mut [(i64, i64)], slots: &[Slot], load: &Load, c: usize) {
+    for ((pair, slot), s) in pairs.iter_mut().zip(slots).zip(0..) {
+        let (p, q) = load.power(c, s);
         pair.0 += slot.grid_value(p);
         pair.1 += slot.grid_value(q);
     }
@@ -78,6 +87,12 @@ fn within_bounds(slots: &[Slot], pairs: &[(i64, i64)]) -> bool {
 
 fn admitted(slots: &[Slot], pairs: &[(i64, i64)]) -> bool {
     slots.iter().zip(pairs).all(|(slot, &(a, b))| slot.admits(a, b))
+}
+
+/// Whether this choice is admitted.
+pub fn admits(book: &Book, choice: &[usize]) -> bool {
+    let slots = slots(book);
+    admitted(&slots, &pairs(book, &slots, choice))
 }
 
 /// H(k).
@@ -94,8 +109,9 @@ fn lists(book: &Book, slots: &[Slot], k: usize) -> u64 {
 
 /// By a map from each list of grid pairs to the best rank that reaches it, loads in order.
 ///
-/// Lists with a > R are dropped at once: a never falls, so no later H counts them, and aL > S, so none is admitted.
-pub fn by_map(book: &Book) -> Plan {
+/// Lists with a > R are dropped at once: a never falls, so no later H counts them, and aL > S, so none is admitted. None may be
+/// left, as standing draws too.
+pub fn by_map(book: &Book) -> Planned {
     let slots = slots(book);
     let mut layer: HashMap<Pairs, Rank> = HashMap::from([(vec![(0, 0); slots.len()], (0, Reverse(0)))]);
     let mut trials = 0;
@@ -104,22 +120,23 @@ pub fn by_map(book: &Book) -> Plan {
         layer = next_layer(book, &slots, k, &layer);
     }
     let admitted = layer.iter().filter(|(pairs, _)| admitted(&slots, pairs));
-    let (worth, Reverse(code)) = *admitted.map(|(_, rank)| rank).max().expect("all standing is admitted");
-    Plan {
+    let best = admitted.map(|(_, rank)| rank).max();
+    let plan = best.map(|&(worth, Reverse(code))| Plan {
         choice: (0..book.loads.len()).map(|k| (code >> (2 * k)) as usize % 4).collect(),
         worth,
-        trials,
-    }
+    });
+    Planned { plan, trials }
 }
 
 fn next_layer(book: &Book, slots: &[Slot], k: usize, layer: &HashMap<Pairs, Rank>) -> HashMap<Pairs, Rank> {
-    let mut next = layer.clone();
+    let load = &book.loads[k];
+    let mut next: HashMap<Pairs, Rank> = HashMap::with_capacity(layer.len());
     for (pairs, &(worth, Reverse(code))) in layer {
-        for (level, c) in book.loads[k].levels.iter().zip(1..) {
+        for c in 0..=load.levels.len() {
             let mut pairs = pairs.clone();
-            add(&mut pairs, slots, &level.powers);
+            add(&mut pairs, slots, load, c);
             if within_bounds(slots, &pairs) {
-                let rank = (worth + level.worth, Reverse(code + (c << (2 * k))));
+                let rank = (worth + load.worth(c), Reverse(code + ((c as u64) << (2 * k))));
                 next.entry(pairs)
                     .and_modify(|held| *held = rank.max(*held))
                     .or_insert(rank);

@@ -1,19 +1,26 @@
-//! The quick planner: document 01, "Quick planner and sheet reader".
+//! The quick planner: document 01, "Quick planner and sheet reader"; M-104: it begins with all standing, which may draw.
 
 use super::book::Book;
 
-/// The choice that the quick planner makes: option 1 or standing for each load.
-pub fn choice(book: &Book) -> Vec<usize> {
+/// The choice that the quick planner makes: option 1 or standing for each load; none where all standing breaks a limit.
+pub fn choice(book: &Book) -> Option<Vec<usize>> {
+    let mut choice = vec![0; book.loads.len()];
+    if !fits(book, &choice) {
+        return None;
+    }
     let mut order: Vec<usize> = (0..book.loads.len()).collect();
     order.sort_by_key(|&k| (size(book, k), k));
-    let mut choice = vec![0; book.loads.len()];
     for k in order {
-        choice[k] = 1;
-        if !fits(book, &choice) {
-            choice[k] = 0;
-        }
+        choice = taken(book, &choice, k).unwrap_or(choice);
     }
-    choice
+    Some(choice)
+}
+
+/// The choice with load k taken, which replaces what it draws standing; none where a limit is broken.
+pub fn taken(book: &Book, choice: &[usize], k: usize) -> Option<Vec<usize>> {
+    let mut choice = choice.to_vec();
+    choice[k] = 1;
+    fits(book, &choice).then_some(choice)
 }
 
 /// The sum over the slots of option 1's P² + Q².

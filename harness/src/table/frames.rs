@@ -13,7 +13,7 @@ pub struct Level {
     pub reactive: [i64; SLOTS],
 }
 
-/// A load's levels from 0, standing, on.
+/// A load's levels from 0, standing, on; on a line of kind `02` standing draws nothing.
 #[derive(Clone, Copy, Default)]
 pub struct Load {
     levels: [Level; 4],
@@ -78,6 +78,17 @@ impl Fields<'_> {
             .fold(0, |number, &byte| number << 4 | u64::from(value(byte)))
     }
 
+    /// Reads P and Q of each slot; gives whether all have |Q| ≤ P.
+    fn powers(&mut self, level: &mut Level, slots: usize) -> bool {
+        let mut kept = true;
+        for slot in 0..slots {
+            level.active[slot] = self.next(4) as i64;
+            level.reactive[slot] = i64::from(self.next(4) as u16 as i16);
+            kept &= level.reactive[slot].abs() <= level.active[slot];
+        }
+        kept
+    }
+
     fn refuse_unless(&self, holds: bool, number: u64) -> Result<(), Refusal> {
         match holds {
             true => Ok(()),
@@ -92,9 +103,11 @@ impl Fields<'_> {
 /// The book in these bytes, or the first refusal of 1 to 8.
 pub fn read(bytes: &[u8]) -> Result<Book, Refusal> {
     let mut rest = bytes;
-    let mut book = header(next_line(&mut rest, 1, 0x01)?)?;
+    let (_, fields) = next_line(&mut rest, 1, &[0x01])?;
+    let mut book = header(fields)?;
     for k in 0..book.count {
-        book.loads[k] = load(next_line(&mut rest, k as u64 + 2, 0x02)?, book.slots)?;
+        let (kind, fields) = next_line(&mut rest, k as u64 + 2, &[0x02, 0x06])?;
+        book.loads[k] = load(fields, kind == 0x06, book.slots)?;
     }
     let end = Fields {
         digits: rest,
@@ -104,8 +117,8 @@ pub fn read(bytes: &[u8]) -> Result<Book, Refusal> {
     Ok(book)
 }
 
-/// Takes the line that is due from `rest`; its kind is read.
-fn next_line<'a>(rest: &mut &'a [u8], line: u64, kind: u64) -> Result<Fields<'a>, Refusal> {
+/// Takes the line that is due from `rest`, of one of these kinds: its kind, and the fields after it.
+fn next_line<'a>(rest: &mut &'a [u8], line: u64, kinds: &[u64]) -> Result<(u64, Fields<'a>), Refusal> {
     let end = rest
         .iter()
         .position(|&byte| byte == b'\n')
@@ -116,9 +129,10 @@ fn next_line<'a>(rest: &mut &'a [u8], line: u64, kind: u64) -> Result<Fields<'a>
     };
     *rest = &rest[end + 1..];
     fields.refuse_unless(fields.digits.iter().all(|&byte| value(byte) != NO_DIGIT), 2)?;
-    let wrong_kind = fields.digits.len() < 4 || fields.next(2) != kind;
-    fields.refuse_unless(!wrong_kind, 3)?;
-    Ok(fields)
+    fields.refuse_unless(fields.digits.len() >= 4, 3)?;
+    let kind = fields.next(2);
+    fields.refuse_unless(kinds.contains(&kind), 3)?;
+    Ok((kind, fields))
 }
 
 fn header(mut fields: Fields) -> Result<Book, Refusal> {
@@ -139,22 +153,22 @@ fn header(mut fields: Fields) -> Result<Book, Refusal> {
     Ok(book)
 }
 
-fn load(mut fields: Fields, slots: usize) -> Result<Load, Refusal> {
+fn load(mut fields: Fields, draws_standing: bool, slots: usize) -> Result<Load, Refusal> {
     let options = fields.next(2) as usize;
     fields.refuse_unless((1..=3).contains(&options), 4)?;
-    fields.refuse_unless(fields.digits.len() == options * (4 + 8 * slots), 5)?;
+    let standing = if draws_standing { 8 * slots } else { 0 };
+    fields.refuse_unless(fields.digits.len() == standing + options * (4 + 8 * slots), 5)?;
     let mut load = Load {
         count: options + 1,
         ..Load::default()
     };
     let mut kept = true;
+    if draws_standing {
+        kept &= fields.powers(&mut load.levels[0], slots);
+    }
     for level in &mut load.levels[1..=options] {
         level.worth = fields.next(4);
-        for slot in 0..slots {
-            level.active[slot] = fields.next(4) as i64;
-            level.reactive[slot] = i64::from(fields.next(4) as u16 as i16);
-            kept &= level.reactive[slot].abs() <= level.active[slot];
-        }
+        kept &= fields.powers(level, slots);
     }
     fields.refuse_unless(kept, 7)?;
     Ok(load)

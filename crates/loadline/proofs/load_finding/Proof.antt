@@ -77,7 +77,7 @@ option-start-requires : tie.Need-option-start-requires
 option-start-requires c κs =
     let s = c .before .before .before .before .before .before .before .before .before .before in
     let l = s .args .line .now in
-    (s .pre, rw (c .standing-pairs .ensures) (pairs-most (s .args .slots) l), omega (arith, in-range 1 3 (optionCount l) (few (c .before))))
+    (s .pre, omega (arith, c .standing-pairs .ensures, pairs-most (s .args .slots) l), omega (arith, in-range 1 3 (optionCount l) (few (c .before))))
 
 -- the length that is due
 abbrev dueFor : ℕ → List ℕ → ℕ

@@ -3,7 +3,6 @@ use mathlib.Core.Path.{_≡_, _∙_}
 use Prim.Native.Nat.{_-_}
 use Rattle.loadline.proofs.LineLaws.{option-ranges, setting-option, setting-past, option-next, holds-option}
 use native.Mathlib.Omega.{arith}
-use borrow.Author.Needs.{needs}
 use Rattle.loadline.proofs.worth_of.Statement.{statement}
 use Rattle.loadline.proofs.worth_of.Tie as tie
 
