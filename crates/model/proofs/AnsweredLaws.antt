@@ -1,32 +1,37 @@
--- When the planner gives a sheet, and when refusal 17, in both directions.
+-- When the planner gives a sheet, and when refusal 17, in both directions; and that the quick planner then gives 17 too.
 -- Assumes nothing.
 use mathlib.Core.Path.{_≡_, refl, sym, ap, _∙_, subst}
-use mathlib.Core.Bool.{Bool, true, false}
+use mathlib.Core.Bool.{Bool, true, false, not}
 use mathlib.Core.Logic.{_⊎_, inl, inr}
 use mathlib.Core.List.{List, [], _∷_}
 use mathlib.Core.Option.{Option, none, some}
 use Prim.Native.Nat.{ℕ, _<_, _≤_}
 use native.Mathlib.Omega.{arith}
-use lib.Dec.{ltb}
+use lib.Dec.{T, ltb}
+use lib.ListN.{length}
 use borrow.Author.Tests.{le-ltb, ltb-false}
 use Rattle.model.specs.declared.Answer.{Answer}
 use Rattle.model.specs.declared.Refusal.{Refusal}
-use Rattle.model.specs.declared.Refusal.the-variants.{BudgetExceeded}
+use Rattle.model.specs.declared.Refusal.the-variants.{BufferTooSmall, BudgetExceeded, NoPlan}
 use Rattle.model.specs.declared.Finding.{Finding}
 use Rattle.model.specs.declared.Finding.the-variants.{Passed, Refused}
 use Rattle.model.specs.Refusals.{Result, refused, done, _⇒_, first, checked, andThen, numberOf}
 use Rattle.model.specs.Bounds.{mostCells}
 use Rattle.model.specs.Book.{Problem, readBook}
-use Rattle.model.specs.Choice.{Choice}
-use Rattle.model.specs.Grid.{plan}
+use Rattle.model.specs.Choice.{Choice, IsChoice}
+use Rattle.model.specs.Grid.{slotsOf, keepsLimits, plan}
 use Rattle.model.specs.Trials.{cells, neededWords, trials}
 use Rattle.model.specs.Sheet.{sheetOf, sheetLength}
 use Rattle.model.specs.Calls.{sizeRules, fitting, fittingBook, planned, planSheet, plannerResult}
+use Rattle.model.specs.Quick.{allStanding, quickChoice, quickRules, quickSheet, quickResult}
+use Rattle.model.specs.Valid.{ValidBook}
 use Rattle.model.specs.Demand.{Searched, SomeAdmitted, Answered}
 use Rattle.model.specs.Answers.{answerOf}
-use Rattle.model.proofs.RefusalLaws.{number-some, NoneApplies, first-passed, first-none, first-most, RulesMost, NumberMost}
-use Rattle.model.proofs.PlanLaws.{plan-is, plan-none}
-use Rattle.model.proofs.ValidLaws.{book-most}
+use Rattle.model.proofs.RefusalLaws.{number-some, NoneApplies, first-here, first-next, first-passed, first-none, first-most, RulesMost, NumberMost}
+use Rattle.model.proofs.AdmissionLaws.{slots-for, keeps-admitted, admitted-is}
+use Rattle.model.proofs.PlanLaws.{chosen-length, plan-is, plan-none}
+use Rattle.model.proofs.QuickLaws.{standing-chosen}
+use Rattle.model.proofs.ValidLaws.{book-valid, book-most}
 
 -- a number that refusals 1 to 12 do not have
 abbrev Past : ℕ → Type 0
@@ -125,3 +130,36 @@ module _ (book : List ℕ) (words room : ℕ) where
 -- the same of an answer that is the planner's
 pub answered-as : (book : List ℕ) (words room : ℕ) (a : Answer) → a ≡ answerOf (plannerResult book words room) → Answered book words room (a .number)
 answered-as book words room a e = subst (λ (x : Answer). Answered book words room (x .number)) (sym e) (answered book words room)
+
+-- a book without a plan has no quick sheet either: all standing would be admitted if it kept the limits
+module _ (b : Problem) (valid : ValidBook b) (none-is : SomeAdmitted b → ⊥) where
+  standing-over : keepsLimits (slotsOf b) (allStanding b) ≡ false
+  standing-over = go (keepsLimits (slotsOf b) (allStanding b)) refl
+    where
+      chosen : IsChoice (b .loads) (allStanding b)
+      chosen = standing-chosen b valid
+
+      go : (t : Bool) → keepsLimits (slotsOf b) (allStanding b) ≡ t → t ≡ false
+      go false e = refl
+      go true e =
+          absurd
+          (none-is (record {
+            choice = allStanding b;
+            of-book = chosen;
+            admissible = admitted-is (slotsOf b) (allStanding b) .0
+                (keeps-admitted (length (b .loads)) (slotsOf b) (slots-for b) (allStanding b) (chosen-length (b .loads) (allStanding b) chosen) (subst T (sym e) tt));
+          }))
+
+  quick-missing : (room : ℕ) → sheetLength b ≤ room → answerOf (quickSheet room b) .number ≡ 17
+  unfolding quickSheet quickRules
+  quick-missing room long =
+      ap (λ f. answerOf (checked 0 f (done (sheetOf b (quickChoice b) (length (b .loads))))) .number)
+      (first-next BufferTooSmall _ _ (le-ltb room (sheetLength b) long) ∙ first-here NoPlan [] _ (ap not standing-over))
+
+-- WHERE THE PLANNER GIVES 17, the quick planner gives it too, with a buffer that suffices
+pub quick-none : (book : List ℕ) (words room : ℕ) → answerOf (plannerResult book words room) .number ≡ 17 → answerOf (quickResult book room) .number ≡ 17
+unfolding quickResult
+quick-none book words room e =
+    let x = answered book words room .none-only e in
+    ap (λ r. answerOf (andThen r (quickSheet room)) .number) (x .1 .reads)
+    ∙ quick-missing (x .0) (book-valid book (x .0) (x .1 .reads)) (x .2) room (x .1 .long)

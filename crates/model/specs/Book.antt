@@ -94,11 +94,12 @@ optionAt t line c at =
 abbrev pub options : ℕ → List ℕ → Settings
 options t line = map (λ j. optionAt t line (suc j) (optionStart t (standingPairs t line) j)) (upto (optionCount line))
 
--- WHAT STANDING DRAWS in slot s: the pair that the line carries for it; document 02: "a `02` line has zeros there"
+-- WHAT STANDING DRAWS in slot s: the pair that the line carries for it. Document 01 has "0 is standing and draws nothing"; M-104: "a `02` line has
+-- zeros there"
 unfoldable pub standingPower : ℕ → List ℕ → ℕ → Power
 standingPower t line s = cond (ltb s (standingPairs t line)) (powerAt line (4 + 8 * s)) noPower
 
--- "0 is standing": no worth
+-- "0 is standing": no worth, as it is none of "the chosen options"
 abbrev pub standing : ℕ → List ℕ → Setting
 standing t line = record { number = 0; worth = 0; powers = map (standingPower t line) (upto t) }
 

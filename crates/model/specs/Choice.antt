@@ -75,7 +75,8 @@ plus x y = record { p = x .p + y .p; q = x .q +ℤ y .q }
 abbrev pub powerIn : ℕ → Setting → Power
 powerIn slot v = getD (v .powers) slot noPower
 
--- "Its sums in a slot, also called its true sums, are those of the chosen P and Q, unrounded"
+-- "Its sums in a slot, also called its true sums, are those of the chosen P and Q, unrounded"; document 02, M-104: "Sums, grid values and H count the
+-- standing pair where c is 0"
 abbrev pub sumIn : ℕ → Choice → Power
 sumIn slot [] = noPower
 sumIn slot (v ∷ c) = plus (powerIn slot v) (sumIn slot c)

@@ -74,7 +74,7 @@ pub record Demand3 (book sheet : List ℕ) : Type 0 where
   pub reads : readBook book ≡ done b
   pub choice : Choice
   pub on-sheet : OnSheet b sheet choice
-  -- "the sheet's choice is worth at least as much as every other choice that keeps P² + Q² ≤ S² in every slot"
+  -- "the sheet's choice is worth at least as much as every other choice that keeps P² + Q² ≤ S² in every slot"; M-104: "among choices summed this way"
   pub worth : (other : Choice) → IsChoice (b .loads) other → ((slot : ℕ) → slot < T b → apparentSquaredIn slot other ≤ square (S b slot))
       → worthOf other ≤ worthOf choice
   -- the next three have no condition on other choices: "whether or not another choice keeps the limits"

@@ -90,8 +90,8 @@ fn adds_nothing(load: LoadMoves) -> bool
     false
 }
 
-// Empties the stretch of a row, whose cells begin at `at`. What a first setting that adds neither worth nor code brings there is copied at once; gives the
-// number of settings that have been offered, 0 or 1.
+// Empties the stretch of a row, whose cells begin at `at`. What a first setting that adds neither worth nor code brings there is copied at
+// once; gives the number of settings that have been offered, 0 or 1.
 pub fn open_row(
     work: &mut [u64],
     grid: Grid,
