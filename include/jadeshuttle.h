@@ -20,8 +20,8 @@
  * kind 06 for a load that draws while it stands. A 06 line has, after its number of
  * levels, a P and a Q for each slot, its standing pairs, and then the levels: in all
  * 4 + 8T + o x (4 + 8T) digits, 8T more than a 02 line. Every sum of P and Q counts
- * the standing pair of a load that stands; on a 02 line it is (0, 0). Such a load is
- * standing all the same: its level and its worth are 0, whatever it draws.
+ * the standing pair of a load that stands; on a 02 line it is (0, 0). A load that
+ * stands and draws is standing all the same: its level and its worth are 0.
  *
  * LINKING  Name target/staticlib/libjadeshuttle.a after your own files. It calls
  * memcpy and memset of the C library, and nothing else.
@@ -163,9 +163,9 @@ typedef struct jadeshuttle_order_answer {
  * The planner. Writes the sheet of the plan: the admitted choice of greatest
  * worth, and among equals the one with the smallest code. Gives 1 to 12, and then
  * 17. There is a sheet exactly where no refusal applies, and 17 exactly where none
- * of 1 to 12 applies and no choice is admitted. A choice that keeps the limits is
- * admitted, so with 17 none keeps them. Without 06 lines all standing does, and 17
- * is not given.
+ * of 1 to 12 applies and no choice is admitted. Where 17 is given, no choice keeps
+ * P*P + Q*Q <= S*S in every slot. Where all standing keeps the limits, as it does in
+ * every book without 06 lines, 17 is not given.
  *
  * Of every sheet it gives, with P and Q the true sums in a slot and S its limit:
  *   - no choice that keeps P*P + Q*Q <= S*S in every slot is worth more;

@@ -206,20 +206,34 @@ mod tests {
     use super::*;
     use crate::draw;
     use crate::kinds::SMALL;
-    use crate::reference::Case;
+    use crate::reference::book::{read, read_where, Load};
 
-    /// On books of which every load draws standing, so that it is the longer lines that are aimed at.
+    /// Of 300 books with a fault aimed at this refusal, those that are refused so. Every load draws standing, so that it is the
+    /// longer lines that are aimed at.
+    fn reached(refusal: usize) -> Vec<Vec<u8>> {
+        let random = &mut Random::new(7);
+        let mut texts: Vec<Vec<u8>> = (0..300)
+            .map(|_| draw::text(&draw::heated(random, SMALL, &[0..=8], &(0..=8))))
+            .collect();
+        texts.iter_mut().for_each(|text| fault(random, text, refusal));
+        texts.retain(|text| read(text).is_err_and(|found| found.number == refusal as u64));
+        texts
+    }
+
     #[test]
     fn faults_reach_their_refusals() {
-        let random = &mut Random::new(7);
         for refusal in 1..=8 {
-            let reached = (0..300).filter(|_| {
-                let mut text = draw::text(&draw::heated(random, SMALL, &[0..=8], &(0..=8)));
-                fault(random, &mut text, refusal);
-                let found = Case::new(text).book.err();
-                found.is_some_and(|found| found.number == refusal as u64)
-            });
-            assert!(reached.count() > 150, "refusal {refusal}");
+            assert!(reached(refusal).len() > 150, "refusal {refusal}");
         }
+    }
+
+    /// Refusal 7 for a standing pair alone, where a reader that tries the options only takes the book; and for an option.
+    #[test]
+    fn slack_is_put_into_standing_and_into_options() {
+        let (standing, options): (Vec<_>, Vec<_>) = reached(7)
+            .into_iter()
+            .partition(|text| read_where(text, Load::options_within_active).is_ok());
+        assert!(standing.len() > 75, "{} of standing", standing.len());
+        assert!(options.len() > 75, "{} of options", options.len());
     }
 }

@@ -131,12 +131,27 @@ fn limit(random: &mut Random) -> i64 {
 /// How a drawn book's worths and powers are spread.
 #[derive(Clone, Copy)]
 struct Spread {
+    /// The greatest worth.
     worth: i64,
+    /// The style of `power`, of 0 to 6.
     power: i64,
+    /// The style of `reactive`, of 0 to 6.
     reactive: usize,
     /// Of eight loads, so many draw standing (kind `06`).
     standing_loads: usize,
-    standing: usize,
+    /// How much those draw.
+    standing: Heat,
+}
+
+/// What a load draws standing in a slot, at most.
+#[derive(Clone, Copy)]
+enum Heat {
+    /// So many eighths of its share of the limit.
+    Share(i64),
+    /// Nothing, or half the limit by itself.
+    Half,
+    /// Mostly nothing; but also an eighth of its share, all of it, the limit by itself, or more.
+    Any,
 }
 
 impl Spread {
@@ -146,7 +161,18 @@ impl Spread {
             power: random.pick(&[0, 1, 2, 2, 2, 3, 3, 3, 4, 5, 6]),
             reactive: random.below(7),
             standing_loads: random.pick(&[0, 0, 0, 1, 4, 4, 7, 8, 8]),
-            standing: random.pick(&[0, 1, 2, 2, 3, 3, 3, 4, 4, 5, 5, 6]),
+            standing: Heat::new(random),
+        }
+    }
+}
+
+impl Heat {
+    fn new(random: &mut Random) -> Heat {
+        let shares = [0, 1, 4, 4, 8, 8, 8, 12, 12];
+        match random.below(12) {
+            n @ 0..9 => Heat::Share(shares[n]),
+            9 | 10 => Heat::Half,
+            _ => Heat::Any,
         }
     }
 }
@@ -210,13 +236,9 @@ fn power(random: &mut Random, limit: i64, loads: i64, spread: Spread) -> (i64, i
 /// P and Q of standing in one slot with limit S: mostly so little that all loads can stand, now and then more than running.
 fn standing_power(random: &mut Random, limit: i64, loads: i64, spread: Spread) -> (i64, i64) {
     let eighths = match spread.standing {
-        0 => 0,
-        1 => 1,
-        2 => 4,
-        3 => 8,
-        4 => 12,
-        5 => random.pick(&[0, 0, 4 * loads]),
-        _ => random.pick(&[0, 0, 0, 0, 1, 8, 8 * loads, 9 * loads]),
+        Heat::Share(eighths) => eighths,
+        Heat::Half => random.pick(&[0, 0, 4 * loads]),
+        Heat::Any => random.pick(&[0, 0, 0, 0, 1, 8, 8 * loads, 9 * loads]),
     };
     let most = part_of_share(random, eighths, limit, loads);
     up_to(random, most, spread)

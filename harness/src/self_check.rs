@@ -1,12 +1,13 @@
 //! Shows that the comparison can fail: calls that went right are altered in one place each, and references are given a mistake
-//! each, which must be reported.
+//! each, which must be reported; what is as it was must not be. Each call, run and reference, altered or not, is one check.
 
 use crate::call::{Call, Function, Input};
+use crate::damage::fault;
 use crate::draw;
 use crate::kinds::{self, SMALL};
 use crate::random::Random;
-use crate::reference::book::Book;
-use crate::reference::{sheet, Case, Outcome, EXAMPLE};
+use crate::reference::book::{self, Book, Load};
+use crate::reference::{quick, sheet, Case, Outcome, EXAMPLE};
 use crate::session::Session;
 use crate::{Answer, SHEET_MAX};
 
@@ -188,15 +189,18 @@ impl Checks {
 /// Makes every check.
 pub fn run() -> Checks {
     let mut checks = Checks::default();
-    for base in bases().into_iter().chain(view_bases()).chain(standing_bases()) {
-        check_base(&mut checks, &base);
+    let bases = [bases(), view_bases(), standing_plan_bases(), standing_sheet_bases()];
+    for base in bases.iter().flatten() {
+        check_base(&mut checks, base);
     }
     for (name, alter) in FIELDS {
         check_session(&mut checks, name, *alter);
     }
-    check_reference(&mut checks, &("no mistake", Case::outcome), false);
-    for mistake in MISTAKES {
-        check_reference(&mut checks, mistake, true);
+    for (books, mistakes) in [(RIGHT, PLANNING_MISTAKES), (SLACK, READING_MISTAKES)] {
+        check_reference(&mut checks, books, &("no mistake", Case::outcome), false);
+        for mistake in mistakes {
+            check_reference(&mut checks, books, mistake, true);
+        }
     }
     checks
 }
@@ -235,7 +239,8 @@ fn check_session(checks: &mut Checks, name: &str, alter: fn(&mut Call)) {
 /// A reference with a mistake: what it would have a planner leave.
 type Mistake = (&'static str, fn(&Case, Input) -> Outcome);
 
-const MISTAKES: &[Mistake] = &[
+/// To be seen on right books.
+const PLANNING_MISTAKES: &[Mistake] = &[
     ("standing draws nothing", |case, input| {
         without_standing(case).outcome(input)
     }),
@@ -245,12 +250,13 @@ const MISTAKES: &[Mistake] = &[
     ("standing left out of grid values and limits", |case, input| {
         written_for(&without_standing(case), case, input)
     }),
-    ("standing not taken off where a load runs", |case, input| {
-        match input.function {
-            Function::Quick => with_option_added(case).outcome(input),
+    (
+        "standing not taken off where a load is tried",
+        |case, input| match input.function {
+            Function::Quick => quick_with_option_added(case, input),
             _ => case.outcome(input),
-        }
-    }),
+        },
+    ),
     ("17 before 12", |case, input| {
         let mut outcome = case.outcome(input);
         let number = &mut outcome.answer.first.number;
@@ -271,24 +277,46 @@ const MISTAKES: &[Mistake] = &[
     }),
 ];
 
-/// The most books that are drawn for a mistake to show.
-const BOOKS: usize = 500;
+/// To be seen on books with a |Q| above P.
+const READING_MISTAKES: &[Mistake] = &[("standing left out of refusal 7", |case, input| {
+    read_by_options(case).outcome(input)
+})];
 
-/// Compares calls of both planners with a reference, with budgets that suffice and that do not.
-fn check_reference(checks: &mut Checks, (name, reference): &Mistake, expected: bool) {
+/// Books that a reference is compared on.
+type Books = (&'static str, fn(&mut Random) -> Case);
+
+/// With budgets that suffice and that do not.
+const RIGHT: Books = ("right books", |random| {
+    let case = Case::new(draw::text(&draw::book(random, SMALL)));
+    case.with_budget(random.pick(&[0xFFFF_FFFF, case.planned().trials - 1]))
+});
+
+/// With a |Q| above P, in an option or standing.
+const SLACK: Books = ("slack books", |random| {
+    let mut text = draw::text(&draw::book(random, SMALL));
+    fault(random, &mut text, 7);
+    Case::new(text)
+});
+
+/// The most books that are drawn for a mistake to show.
+const MOST_BOOKS: usize = 500;
+
+/// Compares calls of both planners with a reference.
+fn check_reference(checks: &mut Checks, (books, draw): Books, (name, reference): &Mistake, expected: bool) {
     let random = &mut Random::new(1);
-    let reported = (0..BOOKS).any(|_| {
-        let case = Case::new(draw::text(&draw::book(random, SMALL)));
-        let case = case.with_budget(random.pick(&[0xFFFF_FFFF, case.planned().trials - 1]));
-        let words = vec![7; 4 * case.cells() as usize];
-        let (text, free) = (&case.text, [0; SHEET_MAX]);
-        [Input::plan(text, &words, &free), Input::quick(text, &free)].map(|input| {
+    let (words, free) = (vec![7; 4 * SMALL.cells as usize], [0; SHEET_MAX]);
+    let reported = (0..MOST_BOOKS).any(|_| {
+        let case = draw(random);
+        [Input::plan(&case.text, &words, &free), Input::quick(&case.text, &free)].map(|input| {
             let complaints = Call::new(random, input).complaints(&reference(&case, input));
             !complaints.is_empty()
         }) != [false; 2]
     });
     let verb = if expected { "is not" } else { "must not be" };
-    checks.check(reported == expected, &format!("reference, {name}: {verb} reported"));
+    checks.check(
+        reported == expected,
+        &format!("reference on {books}, {name}: {verb} reported"),
+    );
 }
 
 fn book_of(case: &Case) -> &Book {
@@ -300,17 +328,35 @@ fn without_standing(case: &Case) -> Case {
     Case::new(draw::text(&draw::with_standing(book_of(case), None)))
 }
 
-/// The case of the book in which option 1 of each load has what the load draws standing added, as far as 16 bits go.
-fn with_option_added(case: &Case) -> Case {
-    let mut book = book_of(case).clone();
+/// What the quick planner has to leave, but a load's option 1 is added to the sums that are tried, and what it draws standing is
+/// not taken off. The order of trying, and the sums on the sheet, are right.
+fn quick_with_option_added(case: &Case, input: Input) -> Outcome {
+    let (book, mut outcome) = (book_of(case), case.outcome(input));
+    if let Some(choice) = quick::choice_in(&with_option_added(book), &quick::order(book)) {
+        outcome.answer.first.worth = book.worth(&choice);
+        outcome.sheet = sheet::write(book, &choice, outcome.answer.first.trials);
+    }
+    outcome
+}
+
+/// The book in which option 1 of each load has what the load draws standing added.
+fn with_option_added(book: &Book) -> Book {
+    let mut book = book.clone();
     for load in &mut book.loads {
         let powers = load.levels[0].powers.iter_mut();
         for ((p, q), (standing_p, standing_q)) in powers.zip(load.standing.iter().flatten()) {
-            *p = (*p + standing_p).min(65_535);
-            *q = (*q + standing_q).clamp(-32_768, 32_767);
+            *p += standing_p;
+            *q += standing_q;
         }
     }
-    Case::new(draw::text(&book))
+    book
+}
+
+/// The case of the book as it is read where refusal 7 is for options alone.
+fn read_by_options(case: &Case) -> Case {
+    let mut case = Case::new(case.text.clone());
+    case.book = book::read_where(&case.text, Load::options_within_active);
+    case
 }
 
 /// What a call has to leave for the first book, but the sheet is of the second book with the same choice.
@@ -386,55 +432,42 @@ fn view_bases() -> Vec<Base> {
     ]
 }
 
-/// Each call on a book with a load that draws standing; and 17 in both planners, with 12 before it.
-fn standing_bases() -> Vec<Base> {
+/// Both planners on a book with a load that draws standing; and 17 in both, with 12 before it.
+fn standing_plan_bases() -> Vec<Base> {
     let [good, over] = [STANDING, OVER].map(|book| Case::new(book.to_vec()));
-    let spent = over.with_budget(OVER_TRIALS - 1);
-    let last = over.with_budget(OVER_TRIALS);
-    let sheet = good.plan(NEED, BUFFER).sheet;
-    let [running, planned] = [[1, 0, 0], [0, 1, 1]].map(|choice| sheet::write(book_of(&good), &choice, 0));
+    let [last, spent] = [OVER_TRIALS, OVER_TRIALS - 1].map(|budget| over.with_budget(budget));
     let free = [0; BUFFER];
     let words = [7; NEED + 9];
     let plan = |name, case: &Case, own| of_own(own, base(name, case, Input::plan(&case.text, &words, &free)));
     let quick = |name, case: &Case, own| of_own(own, base(name, case, Input::quick(&case.text, &free)));
-    let other = |name, own, input| of_own(own, base(name, &good, input));
-    let text = &good.text;
     vec![
         plan("plan, a load draws standing", &good, NOT_SUMMED),
         plan("plan, refusal 17", &last, NOT_REFUSED),
         plan("plan, refusal 12 before 17", &spent, NOT_SPENT),
         quick("quick, a load draws standing", &good, NOT_TAKEN_OFF),
         quick("quick, refusal 17", &over, NOT_REFUSED),
-        other(
-            "read_sheet, a load draws standing",
-            &[],
-            Input::read_sheet(text, &sheet),
-        ),
-        other(
-            "read_sheet, standing not summed",
-            &[],
-            Input::read_sheet(text, BENCH_SHEET),
-        ),
-        other(
-            "charge, a load draws standing",
-            NOT_CHARGED,
-            Input::charge(text, &sheet, &[40]),
-        ),
-        other(
-            "order, a load draws standing",
-            &[],
-            Input::order(text, &running, &planned, &[0; 3], &free),
-        ),
-        other(
-            "mill_view, a load draws standing",
-            &[],
-            Input::mill_view(text, &sheet, &free),
-        ),
-        other(
-            "supply_view, a load draws standing",
-            NOT_SHOWN,
-            Input::supply_view(text, &sheet, &free),
-        ),
+    ]
+}
+
+/// Each call that takes a sheet, on the same book.
+fn standing_sheet_bases() -> Vec<Base> {
+    let good = Case::new(STANDING.to_vec());
+    let (text, sheet) = (&good.text, good.plan(NEED, BUFFER).sheet);
+    let [running, planned] = [[1, 0, 0], [0, 1, 1]].map(|choice| sheet::write(book_of(&good), &choice, 0));
+    let free = [0; BUFFER];
+    let [read, not_summed] = [&sheet, BENCH_SHEET].map(|sheet| Input::read_sheet(text, sheet));
+    let charge = Input::charge(text, &sheet, &[40]);
+    let order = Input::order(text, &running, &planned, &[0; 3], &free);
+    let mill = Input::mill_view(text, &sheet, &free);
+    let supply = Input::supply_view(text, &sheet, &free);
+    let of = |name, input, own| of_own(own, base(name, &good, input));
+    vec![
+        of("read_sheet, a load draws standing", read, &[]),
+        of("read_sheet, standing not summed", not_summed, &[]),
+        of("charge, a load draws standing", charge, NOT_CHARGED),
+        of("order, a load draws standing", order, &[]),
+        of("mill_view, a load draws standing", mill, &[]),
+        of("supply_view, a load draws standing", supply, NOT_SHOWN),
     ]
 }
 

@@ -5,6 +5,7 @@
 mod tables;
 
 use harness::project::{self, same};
+use harness::reference::Case;
 use harness::trials::{Trials, Verdict};
 use std::process::{Command, ExitCode};
 use tables::TABLES;
@@ -12,7 +13,7 @@ use tables::TABLES;
 const HANDBOOK: &str = "docs/HANDBOOK.md";
 const PROVED_TABLE: &str = "crates/model/proofs/AcceptanceTable.antt";
 
-/// Books whose answers the handbook says are proved.
+/// Books of which the handbook says that what both planners answer is proved.
 const PROVED_BOOKS: [&str; 3] = [
     "examples/heaters.book",
     "examples/warm.book",
@@ -56,6 +57,9 @@ fn read(trials: &mut Trials) -> Verdict {
     trials.check("examples/close.book is a row of the proved table", proved_overload);
     for book in PROVED_BOOKS {
         trials.check(&format!("{book} is a row of the proved table"), || proved_print(book));
+        trials.check(&format!("{book} is a row of the proved table, planned quickly"), || {
+            proved_quick(book)
+        });
     }
     trials.check(&format!("{HANDBOOK} names no path that is missing"), || {
         paths(&handbook)
@@ -164,23 +168,46 @@ fn used(file: &str, blocks: &[Block]) -> Verdict {
 fn proved_overload() -> Verdict {
     let [book, sheet] = ["examples/close.book", "examples/close.sheet"].map(project::text);
     let row = format!("overloads {}\n    {}", quoted(&book?), quoted(&sheet?));
-    proved(&project::text(PROVED_TABLE)?, &row)
+    proved(&[row])
 }
 
-/// The book has a name in the proved table, and a row by this name with what the program prints.
+/// A row by the book's name has what the program prints.
 fn proved_print(book: &str) -> Verdict {
+    let name = name_of(book)?;
+    let command = format!("target/bin/loadplan < {book}");
+    let (_, printed) = project::run(Command::new("bash").args(["-c", &command]))?;
+    let printed = quoted(&String::from_utf8_lossy(&printed));
+    proved(&[format!("prints {name} {printed}\n")])
+}
+
+/// A row by the book's name has what the program would print of the quick planner's answer, or that and the answer's numbers,
+/// in a buffer that is just long enough.
+fn proved_quick(book: &str) -> Verdict {
+    let (name, text) = (name_of(book)?, project::bytes(book)?);
+    let mut sheet = vec![0; Case::new(text.clone()).sheet_bytes()];
+    let answer = harness::quick(&text, &mut sheet);
+    let printed = quoted(&match answer.number {
+        0 => String::from_utf8_lossy(&sheet).into_owned(),
+        number => format!("FF{number:02X}{:04X}\n", answer.line),
+    });
+    let numbers = [answer.number, answer.line, answer.bytes, answer.worth, answer.trials];
+    let numbers: String = numbers.iter().map(|number| format!("{number} ∷ ")).collect();
+    let room = sheet.len();
+    proved(&[
+        format!("quickPrints {name} {printed}\n"),
+        format!("shows quickIn (bytesOf {name}) [] {room} ({numbers}[]) {printed}\n"),
+    ])
+}
+
+/// The name that the proved table has for the book.
+fn name_of(book: &str) -> Result<String, String> {
     let table = project::text(PROVED_TABLE)?;
     let text = quoted(&project::text(book)?);
     let name = table
         .lines()
         .find_map(|line| line.strip_suffix(&text)?.strip_suffix(" = "));
-    let name = name.ok_or(format!("{PROVED_TABLE} has no name for\n{text}"))?;
-    let command = format!("target/bin/loadplan < {book}");
-    let (_, printed) = project::run(Command::new("bash").args(["-c", &command]))?;
-    proved(
-        &table,
-        &format!("prints {name} {}\n", quoted(&String::from_utf8_lossy(&printed))),
-    )
+    name.map(str::to_string)
+        .ok_or(format!("{PROVED_TABLE} has no name for\n{text}"))
 }
 
 /// A text as the proved table has it.
@@ -188,9 +215,12 @@ fn quoted(text: &str) -> String {
     format!("\"{}\"", text.replace('\n', "\\n"))
 }
 
-fn proved(table: &str, row: &str) -> Verdict {
-    let found = table.contains(row);
-    found.then_some(()).ok_or(format!("{PROVED_TABLE} has no row\n{row}"))
+/// The proved table has one of these rows.
+fn proved(rows: &[String]) -> Verdict {
+    let table = project::text(PROVED_TABLE)?;
+    let found = rows.iter().any(|row| table.contains(row));
+    let rows = rows.join("or\n");
+    found.then_some(()).ok_or(format!("{PROVED_TABLE} has no row\n{rows}"))
 }
 
 /// Each path of the project that is named exists.

@@ -178,7 +178,7 @@ fn standing_plans() {
     );
     let later = b"0101020500000064000A\n0201000500030000\n060100080000000500040000\n";
     plan_case(
-        b"both run, of which one stood",
+        b"both run, one draws standing",
         later,
         &mut work,
         &mut sheet,

@@ -231,11 +231,22 @@ fn wrong_length(text: &mut [u8], end: u64, seed: u64) -> Drawn {
     }
 }
 
+// Document 02 gives the kinds 06 to 08 to lines of a book. The bench has document 01's books, in which they are not due; 03, which no line has, stands
+// in for them.
+fn of_no_line(kind: u64) -> u64 {
+    if 5 < kind {
+        if kind < 9 {
+            return 3;
+        }
+    }
+    kind
+}
+
 // A kind that is not due.
 fn draw_wrong_kind(seed: u64, due: u64) -> Drawn {
     let other = roll_from(seed, plus(due, 1), 255);
     Drawn {
-        number: rest(other.number, 256),
+        number: of_no_line(rest(other.number, 256)),
         seed: other.seed,
     }
 }

@@ -9,7 +9,7 @@ use Rattle.model.specs.Grid.{plan}
 use Rattle.model.specs.Trials.{trials}
 use Rattle.found.specs.declared.Search.{Search}
 
--- what the search of a book found: the trials are over the budget, or they are the book's, and there is no plan, or the code is the plan's
+-- what the search of a book found: that the trials are over the budget; or the book's trials, and with them that there is no plan, or the plan's code
 pub record Found (b : Problem) (v : Search) : Type 0 where
   pub over : v .within ≡ false → b .budget < trials b
   pub enough : v .within ≡ true → trials b ≤ b .budget

@@ -77,6 +77,7 @@ pub fn search_for(book: Book, slots: Slots, layout: Layout, work: &mut [u64]) ->
         widths,
         limits,
     );
+    // A reached cell holds its worth plus 1, so a plan's is not 0.
     Search {
         within: true,
         trials: trials as u64,

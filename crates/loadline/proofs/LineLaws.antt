@@ -1,4 +1,4 @@
--- Load lines: where things stand on them, their settings by number, and Q plus 32,768.
+-- Load lines: where things stand on them, their settings by number, |Q| > P in some of them, and Q plus 32,768.
 -- Assumes nothing.
 use mathlib.Core.Path.{_≡_, refl, sym, ap, ap₂, _∙_}
 use mathlib.Core.Bool.{Bool, true, false, cond, _||_}
@@ -16,7 +16,7 @@ use Rattle.model.specs.declared.Finding.the-variants.{Passed}
 use Rattle.model.specs.Lists.{upto, any, Every}
 use Rattle.model.specs.Frames.{field, signed}
 use Rattle.model.specs.Refusals.{first}
-use Rattle.model.specs.Book.{Power, noPower, Setting, Settings, optionCount, standingPairs, optionStart, powerAt, optionAt, standingPower, settings, reactiveExceeds, someExceeds, loadRules}
+use Rattle.model.specs.Book.{Power, noPower, Setting, Settings, optionCount, standingPairs, optionStart, powerAt, optionAt, optionOn, standingPower, settings, reactiveExceeds, someExceeds, loadRules}
 use Rattle.model.specs.Choice.{powerIn, noSetting}
 use Rattle.model.specs.Values.{raised, settingOf}
 use Rattle.model.proofs.IntegerLaws.{split, sub-neg}
@@ -33,7 +33,7 @@ load-line t line h e =
     let n = first-passed (loadRules t line) e in
     record {
       slots = h;
-      drawn = refl;
+      carried = refl;
       options = in-range 1 3 (optionCount line) (n .1 .1 .0) .1;
       stated = refl;
       long = eqb-true _ _ (not-false _ (n .1 .1 .1 .0));
@@ -51,7 +51,7 @@ pairs-most t line = go (eqb (field line 0 2) 6)
     go false = omega arith
 
 pub pairs-few : (t pairs o : ℕ) (line : List ℕ) → LoadLine t pairs o line → pairs ≤ t
-pairs-few t pairs o line h = omega (arith, h .drawn, pairs-most t line)
+pairs-few t pairs o line h = omega (arith, h .carried, pairs-most t line)
 
 pub option-next : (t pairs j : ℕ) → optionStart t pairs (j + 1) ≡ optionStart t pairs j + (4 + 8 * t)
 unfolding optionStart
@@ -81,10 +81,6 @@ unfolding optionStart
 line-holds t pairs o line h = rw (h .long) (omega arith)
 
 -- ---- the settings of a load line
-
--- option j + 1
-abbrev optionOn : ℕ → List ℕ → ℕ → Setting
-optionOn t line j = optionAt t line (suc j) (optionStart t (standingPairs t line) j)
 
 pub length-settings : (t : ℕ) (line : List ℕ) → length (settings t line) ≡ optionCount line + 1
 length-settings t line = ap suc (length-upto (optionOn t line) (optionCount line)) ∙ (omega arith)

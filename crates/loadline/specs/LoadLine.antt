@@ -15,7 +15,7 @@ powerValue x = record { active = x .p; reactive = raised (x .q) }
 -- a load line of t slots, with so many pairs for standing and o options
 pub record LoadLine (t pairs o : ℕ) (line : List ℕ) : Type 0 where
   pub slots : t ≤ mostSlots
-  pub drawn : pairs ≡ standingPairs t line
+  pub carried : pairs ≡ standingPairs t line
   pub options : o ≤ mostOptions
   pub stated : o ≡ optionCount line
   pub long : length line ≡ optionStart t pairs o

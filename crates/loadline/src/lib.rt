@@ -5,7 +5,7 @@ use model::Load;
 use model::Refusal;
 ghost use mathlib.Core.Path.{_≡_};
 ghost use mathlib.Core.List.{map};
-ghost use Prim.Native.Nat.{_+_, _≤_};
+ghost use Prim.Native.Nat.{_+_, _*_, _≤_};
 ghost use lib.ListN.{length};
 ghost use Rattle.model.specs.Lists.{upto};
 ghost use Rattle.model.specs.Refusals.{first};
@@ -63,8 +63,9 @@ fn power_at(line: &[u8], at: usize) -> PowerValue
 }
 
 // What standing draws in slot s.
-fn standing_power(line: &[u8], slots: usize, pairs: usize, count: usize, s: usize) -> PowerValue
-    requires { ⌜ LoadLine slots pairs count (now line) ⌝ }
+fn standing_power(line: &[u8], slots: usize, pairs: usize, s: usize) -> PowerValue
+    requires { ⌜ pairs ≡ standingPairs slots (now line) ⌝ }
+    requires { ⌜ 4 + 8 * pairs ≤ length (now line) ⌝ }
     ensures { λ r. ⌜ r ≡ powerValue (standingPower slots (now (line .entry)) s) ⌝ }
 {
     if s < pairs {
@@ -79,7 +80,7 @@ fn power_of(line: &[u8], slots: usize, pairs: usize, count: usize, c: usize, s: 
     ensures { λ r. ⌜ r ≡ powerValue (powerIn s (settingOf (settings slots (now (line .entry))) c)) ⌝ }
 {
     if c < 1 {
-        return standing_power(line, slots, pairs, count, s);
+        return standing_power(line, slots, pairs, s);
     }
     if count < c {
         return PowerValue::none();

@@ -64,10 +64,10 @@ pub data Row : Type 0 where
   -- for three loads, of which these run in the running sheet and those in the new one, with these names and room for so many bytes: the number, the starts,
   -- the stops and the order; or the number and the line
   orders : List ℕ → List ℕ → List ℕ → ℕ → List ℕ → Row
-  -- the same from the sheet with these c to that with those
-  ordersFrom : String → String → List ℕ → ℕ → List ℕ → Row
-  -- the mill's view of a book and a sheet, or the supply company's, in a buffer of so many bytes: the answer's five numbers, and what is shown, printed as
-  -- the program prints a sheet
+  -- the same of a book, the running sheet and the new one
+  ordersFrom : List ℕ → List ℕ → List ℕ → List ℕ → ℕ → List ℕ → Row
+  -- the mill's view of a book and a sheet, the supply company's, or the quick planner's sheet for the book, in a buffer of so many bytes: the answer's five
+  -- numbers, and what is written, printed as the program prints a sheet
   shows : (List ℕ → List ℕ → ℕ → Result Output) → List ℕ → List ℕ → ℕ → List ℕ → String → Row
 
 abbrev printsFor : String → String → Bool
@@ -133,8 +133,7 @@ holds (overloads book out) = printsFor book out && readWith (inSlots nearBound) 
 holds (roundsCharge n r) = eqb (rounded n) r
 holds (charges book sheet prices numbers) = sameLists eqb (chargeNumbers (chargeAnswerOf (chargeResult book sheet prices))) numbers
 holds (orders old new names room numbers) = sameLists eqb (orderNumbers (loadsOrder 3 names room (among old) (among new))) numbers
-holds (ordersFrom old new names room numbers) =
-    sameLists eqb (orderNumbers (orderResult levelsBook (levelsSheet old) (levelsSheet new) names room)) numbers
+holds (ordersFrom book old new names room numbers) = sameLists eqb (orderNumbers (orderResult book old new names room)) numbers
 holds (shows view book sheet room numbers out) =
     sameLists eqb (answerNumbers (answerOf (view book sheet room))) numbers && sameLists eqb (printed (view book sheet room)) (bytesOf out)
 
@@ -235,20 +234,23 @@ planRows =
     ∷ prints "01010101000000640064\n020100010004FFFB\n" "FF070002\n"
     ∷ []
 
--- M-104: load 1 draws (3, 0) where it runs; load 2 stands at (8, 0) and runs at (4, 0); and the sheet on which both stand
+-- M-104: load 1 draws (3, 0) where it runs; load 2 stands at (8, 0) and runs at (4, 0); and the sheets on which both stand, and both run
 abbrev heaters : String
 heaters = "0101020500000064000A\n0201000500030000\n060100080000000500040000\n"
 
 abbrev heatersSheet : List ℕ
 heatersSheet = bytesOf "0400000000000000000000\n050000000800000000000A\n"
 
+abbrev heatersPlan : List ℕ
+heatersPlan = bytesOf "040000000A000000060101\n050000000700000000000A\n"
+
 -- two loads that stand at (11, 0), where the limit is 10, and run at (11, 0); the trials are 2, the budget is 2
 abbrev overloaded : String
 overloaded = "0101020A00000002000A\n0601000B00000005000B0000\n0601000B00000005000B0000\n"
 
--- one load that stands at (11, 0), where the limit is 10, and runs at (6, 0) with no worth
-abbrev running : String
-running = "0101010A00000064000A\n0601000B0000000000060000\n"
+-- one load that stands at (11, 0), where the limit is 10, and runs at (6, 0) with worth 0
+abbrev warm : String
+warm = "0101010A00000064000A\n0601000B0000000000060000\n"
 
 -- the quick planner, in a buffer of so many bytes
 abbrev quickIn : List ℕ → List ℕ → ℕ → Result Output
@@ -257,8 +259,12 @@ quickIn book sheet room = quickResult book room
 -- of standing loads that draw (M-104)
 unfoldable pub standingRows : List Row
 standingRows =
+    -- "A load once passed over is never tried again": beside load 2, which stands at (8, 0), load 1 does not fit; once load 2 runs it would, and it runs
+    -- in the plan
+    quickPrints heaters "0400000005000000020001\n050000000400000000000A\n"
+    ∷ prints heaters "040000000A000000060101\n050000000700000000000A\n"
     -- the line's length by its kind: a `06` line as long as a `02` line, and the other way round
-    prints "0101010A00000064000A\n0601000500050005\n" "FF050002\n"
+    ∷ prints "0101010A00000064000A\n0601000500050005\n" "FF050002\n"
     ∷ prints "0101010A00000064000A\n020100080000000500040000\n" "FF050002\n"
     -- 7 covers the standing pair: |Q| = P is read, |Q| = P + 1 is refused
     ∷ reads "0101010A00000064000A\n060100040004000500040000\n"
@@ -275,22 +281,23 @@ standingRows =
     ∷ shows quickIn (bytesOf overloaded) [] 46 (17 ∷ 0 ∷ 0 ∷ 0 ∷ 0 ∷ []) "FF110000\n"
     ∷ shows quickIn (bytesOf overloaded) [] 45 (11 ∷ 0 ∷ 0 ∷ 0 ∷ 0 ∷ []) "FF0B0000\n"
     -- the only admitted choice runs the load, as its standing pair is larger; the quick planner begins with all standing, and gives 17
-    ∷ prints running "04000000000000000201\n050000000600000000000A\n"
-    ∷ quickPrints running "FF110000\n"
-    -- "A load once passed over is never tried again": beside load 2, which stands at (8, 0), load 1 does not fit; once load 2 runs it would, and it runs
-    -- in the plan
-    ∷ quickPrints heaters "0400000005000000020001\n050000000400000000000A\n"
-    ∷ prints heaters "040000000A000000060101\n050000000700000000000A\n"
+    ∷ prints warm "04000000000000000201\n050000000600000000000A\n"
+    ∷ quickPrints warm "FF110000\n"
+    -- two slots with a limit of 2, and two levels: it stands at 1 and 3, and runs at 2 and 3 with worth 5, or at 2 and 2 with worth 0
+    ∷ prints "010201020000006400020002\n060200010000000300000005000200000003000000000002000000020000\n"
+    "04000000000000000302\n0500000002000000000002\n0500000002000000000002\n"
+    ∷ quickPrints "010201020000006400020002\n060200010000000300000005000200000003000000000002000000020000\n" "FF110000\n"
     -- document 01's book with `06` lines of zeros: its sheets
     ∷ prints "0101030400000064000A\n060100000000000500050005\n06010000000000050004FFFC\n060100000000000400040000\n"
     "040000000A0000000E010100\n050000000900000001000A\n"
     ∷ quickPrints "0101030400000064000A\n060100000000000500050005\n06010000000000050004FFFC\n060100000000000400040000\n"
     "040000000900000003000101\n0500000008FFFFFFFC000A\n"
-    -- the sums of a sheet count standing pairs, in the charge and in the supply company's view; a load that stands so is no running load
+    -- the sums of a sheet count standing pairs, in the charge and in the supply company's view; a load that stands so is no running load, and can start
     ∷ charges (bytesOf heaters) heatersSheet (20 ∷ []) (0 ∷ 0 ∷ 4 ∷ [])
     ∷ charges (bytesOf heaters) (bytesOf "0400000000000000000000\n050000000000000000000A\n") (20 ∷ []) (13 ∷ 0 ∷ 0 ∷ [])
     ∷ shows supplyResult (bytesOf heaters) heatersSheet 23 (0 ∷ 0 ∷ 23 ∷ 0 ∷ 0 ∷ []) "050000000800000000000A\n"
     ∷ shows millResult (bytesOf heaters) heatersSheet 11 (0 ∷ 0 ∷ 11 ∷ 0 ∷ 0 ∷ []) "0900000000\n"
+    ∷ ordersFrom (bytesOf heaters) heatersSheet heatersPlan (0 ∷ 0 ∷ []) 2 (0 ∷ 2 ∷ 0 ∷ 1 ∷ 2 ∷ [])
     ∷ []
 
 -- of sheets: charges, orders of starting and views, the longest book last
@@ -332,10 +339,10 @@ sheetRows =
     ∷ orders [] (1 ∷ []) (2 ∷ 2 ∷ 0 ∷ []) 1 (15 ∷ 0 ∷ [])
     ∷ orders [] (1 ∷ []) (2 ∷ 0 ∷ 0 ∷ []) 0 (16 ∷ 0 ∷ [])
     -- M-101: load 1 stops, load 2 changes its level, load 3 starts
-    ∷ ordersFrom "010100" "000201" (0 ∷ 0 ∷ 0 ∷ []) 1 (0 ∷ 1 ∷ 1 ∷ 3 ∷ [])
+    ∷ ordersFrom levelsBook (levelsSheet "010100") (levelsSheet "000201") (0 ∷ 0 ∷ 0 ∷ []) 1 (0 ∷ 1 ∷ 1 ∷ 3 ∷ [])
     -- M-101, two faults: 13 of either sheet comes before 15
-    ∷ ordersFrom "030000" "000000" [] 0 (13 ∷ 0 ∷ [])
-    ∷ ordersFrom "000000" "030000" [] 0 (13 ∷ 0 ∷ [])
+    ∷ ordersFrom levelsBook (levelsSheet "030000") (levelsSheet "000000") [] 0 (13 ∷ 0 ∷ [])
+    ∷ ordersFrom levelsBook (levelsSheet "000000") (levelsSheet "030000") [] 0 (13 ∷ 0 ∷ [])
     -- M-103: of one load that runs, and where it stands; at the room that is due, and with a byte less
     ∷ shows millResult twinBook twinSheet 15 (0 ∷ 0 ∷ 15 ∷ 0 ∷ 0 ∷ []) "09000000010101\n"
     ∷ shows millResult twinBook twinSheet 14 (11 ∷ 0 ∷ 0 ∷ 0 ∷ 0 ∷ []) "FF0B0000\n"
@@ -365,6 +372,7 @@ unfolding holds standingRows programOutput refusalLine plannerResult planSheet f
     readBook readLoads headerRules loadRules someExceeds standingPairs optionStart standingPower first isDigit digitValue digit valueFrom field digits signed unsigned lineLength
     slotsOf plan bestAdmitted cells trials reachedCount sheetBytes firstLine slotLines sumsAndLimits slotLine numbersOf quickResult quickSheet quickRules quickChoice takeIfFits sizeOf optionOne
     sheetChoice chargeResult sheetCharge choiceCharge chargeOf rounded accepted shown runningLoads numberAndLevel millLine millResult supplyView supplyResult
+    orderResult sheetsOrder loadsOrder starting runningMask andNot startCount wrongNames someBlocked left ready startNext startedAfter startOrder ones onesIn
 standing-rows-hold = refl
 
 sheet-rows-hold : all holds sheetRows ≡ true

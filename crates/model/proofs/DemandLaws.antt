@@ -1,36 +1,35 @@
 -- Demand 3, with M-106, of every sheet that the planner gives, for any number of slots and loads.
 -- Assumes nothing.
 use mathlib.Core.Path.{_≡_, refl, sym, ap, _∙_, subst}
+use mathlib.Core.Logic.{inl}
 use mathlib.Core.List.{List, [], _∷_, _++_}
 use mathlib.Core.Option.{Option, none, some}
 use Prim.Native.Nat.{ℕ, zero, suc, _+_, _*_, _-_, _^_, _/_, _<_, _≤_, max}
 use native.Mathlib.Nat.{le-trans, le-max-left, mul-le-mul-left, mul-le-mul-right, div-mul-le-self, div-lt-iff-lt-mul, mul-zero, add-zero, zero-add, le-of-suc-le-suc}
 use native.Mathlib.Decide.{decLe}
 use native.Mathlib.Omega.{arith}
-use lib.Dec.{leb, ltb, le→leb}
+use lib.Dec.{leb, le→leb}
 use lib.Dec as Dec
 use lib.IntN.{ℤ, pos, natAbs, _+ℤ_}
 use lib.ListN.{length, getD, drop}
-use Rattle.model.specs.declared.Refusal.the-variants.{BudgetExceeded, NoPlan}
-use Rattle.model.specs.declared.Finding.the-variants.{Passed}
 use Rattle.model.specs.Lists.{Mem, Every}
-use Rattle.model.specs.Refusals.{Result, refused, done, _⇒_, first, checked, andThen}
+use Rattle.model.specs.Refusals.{Result, done}
 use Rattle.model.specs.Book.{Setting, Settings, Problem, readBook}
 use Rattle.model.specs.Choice.{Choice, IsChoice, noSetting, worthOf, sumIn, square, apparentSquared}
 use Rattle.model.specs.Grid.{Slot, stepFor, slotsFrom, slotsOf, keepsLimits, gridIn, spreadOf, times, Admissible, admits, admitted, plan}
 use Rattle.model.specs.Trials.{trials}
-use Rattle.model.specs.Sheet.{sheetOf, sheetBytes}
-use Rattle.model.specs.Calls.{sizeRules, fittingBook, planned, planSheet, plannerResult}
-use Rattle.model.specs.Demand.{apparentSquaredIn, S, T, N, CloserOverload, Demand3}
+use Rattle.model.specs.Sheet.{sheetBytes}
+use Rattle.model.specs.Calls.{planned, plannerResult}
+use Rattle.model.specs.Demand.{Past12, apparentSquaredIn, S, T, N, CloserOverload, Demand3}
 use Rattle.model.specs.Valid.{SettingSmall, ValidBook}
 use Rattle.model.specs.Answers.{Output, answerOf, bufferAfter}
 use Rattle.model.proofs.ListLaws.{both, each, every-mem}
 use Rattle.model.proofs.UptoLaws.{suc-across}
-use Rattle.model.proofs.RefusalLaws.{refused-done, done-same, checked-done, then-done, NoneApplies, first-passed, number-some}
 use Rattle.model.proofs.ChoiceLaws.{choice-every, worth-most}
 use Rattle.model.proofs.AdmissionLaws.{square-abs, abs-offset, of-admits, Rounded, rounded-choice}
 use Rattle.model.proofs.PlanLaws.{plan-sound, plan-worth, chosen-length}
 use Rattle.model.proofs.ValidLaws.{book-valid}
+use Rattle.model.proofs.SheetGivenLaws.{past-only, past-result}
 use Rattle.model.proofs.SheetLaws.{worth-on, numbers-on, numbers-small}
 use Rattle.model.proofs.Squares.{sq-mono}
 use Rattle.model.proofs.Overload as Overload
@@ -189,44 +188,18 @@ sheet-demand3 book b c t past e p =
       exact = λ slot l small. slot-exact (N b) (b .fineness) slot (S b slot) c few (admitted-in b c (sound .1) slot l) (omega arith);
     }
 
--- a book that fits was read
-pub fitting-read : (book : List ℕ) (words room : ℕ) (b : Problem) → fittingBook book words room ≡ done b
-    → (readBook book ≡ done b) × NoneApplies (sizeRules b words room)
-unfolding fittingBook
-fitting-read book words room b e =
-    let sized : Problem → Result Problem = λ a. checked 0 (first (sizeRules a words room)) (done a) in
-    let y : (a : Problem) × (readBook book ≡ done a) × (sized a ≡ done b) = then-done (readBook book) sized b e in
-    let z : (first (sizeRules (y .0) words room) ≡ Passed) × (Path (Result Problem) (done (y .0)) (done b))
-    = checked-done 0 (first (sizeRules (y .0) words room)) (done (y .0)) b (y .2) in
-    let same : y .0 ≡ b = done-same (y .0) b (z .1) in
-    (y .1 ∙ z .1, first-passed (sizeRules b words room) (subst (λ (a : Problem). first (sizeRules a words room) ≡ Passed) same (z .0)))
-
--- where a plan was asked for, there is one
-planned-done : {A : Type 0} (m : Option Choice) (f : Choice → Result A) (x : A) → andThen (planned m) f ≡ done x → (c : Choice) × (m ≡ some c) × (f c ≡ done x)
-planned-done none f x e = absurd (refused-done NoPlan 0 x e)
-planned-done (some c) f x e = (c, refl, e)
-
--- what a sheet of the planner is
-pub planned-sheet : (book : List ℕ) (words room : ℕ) (s : Output) → plannerResult book words room ≡ done s
-    → (b : Problem) × (c : Choice) × (readBook book ≡ done b) × (plan b ≡ some c) × (s ≡ sheetOf b c (trials b))
-unfolding plannerResult planSheet
-planned-sheet book words room s e =
-    let x : (b : Problem) × (fittingBook book words room ≡ done b) × (planSheet b ≡ done s) = then-done (fittingBook book words room) planSheet s e in
-    let b : Problem = x .0 in
-    let sheet : Choice → Result Output = λ c. done (sheetOf b c (trials b)) in
-    let d : (c : Choice) × (plan b ≡ some c) × (sheet c ≡ done s)
-    = planned-done (plan b) sheet s (checked-done 0 (first ((ltb (b .budget) (trials b) ⇒ BudgetExceeded) ∷ [])) (andThen (planned (plan b)) sheet) s (x .2) .1) in
-    (b, d .0, fitting-read book words room b (x .1) .0, d .1, sym (done-same (sheetOf b (d .0) (trials b)) s (d .2)))
-
 -- DEMAND 3 of the call: whenever the answer has number 0
 pub demand3 : (book : List ℕ) (words : ℕ) (before : List ℕ) → answerOf (plannerResult book words (length before)) .number ≡ 0
     → Demand3 book (bufferAfter (plannerResult book words (length before)) before)
-demand3 book words before e = go (plannerResult book words (length before)) refl e
+demand3 book words before e =
+    let x : (b : Problem) × Past12 book words (length before) b = past-only book words (length before) (inl e) in
+    let b : Problem = x .0 in
+    let r : plannerResult book words (length before) ≡ planned b (plan b) = past-result book words (length before) b (x .1) in
+    subst (λ (y : Result Output). Demand3 book (bufferAfter y before)) (sym r)
+    (go b (x .1 .reads) (plan b) refl (sym (ap (λ y. answerOf y .number) r) ∙ e))
   where
-    go : (r : Result Output) → plannerResult book words (length before) ≡ r → answerOf r .number ≡ 0 → Demand3 book (bufferAfter r before)
-    go (refused r number) q z = absurd (number-some r z)
-    go (done s) q z =
-        let x : (b : Problem) × (c : Choice) × (readBook book ≡ done b) × (plan b ≡ some c) × (s ≡ sheetOf b c (trials b))
-        = planned-sheet book words (length before) s q in
-        subst (λ (y : Output). Demand3 book (bufferAfter (done y) before)) (sym (x .4))
-        (sheet-demand3 book (x .0) (x .1) (trials (x .0)) (drop (length (sheetBytes (x .0) (x .1) (trials (x .0)))) before) (x .2) (x .3))
+    go : (b : Problem) → readBook book ≡ done b → (m : Option Choice) → plan b ≡ m
+        → answerOf (planned b m) .number ≡ 0
+        → Demand3 book (bufferAfter (planned b m) before)
+    go b reads none q z = absurd (omega arith)
+    go b reads (some c) q z = sheet-demand3 book b c (trials b) (drop (length (sheetBytes b c (trials b))) before) reads q

@@ -21,8 +21,8 @@ pub mod ValidLaws
 pub mod SheetLaws
 pub mod CodeLaws
 pub mod QuickLaws
+pub mod SheetGivenLaws
 pub mod DemandLaws
-pub mod AnsweredLaws
 pub mod ValueLaws
 pub mod RaisedLaws
 pub mod SumLaws

@@ -1,5 +1,5 @@
 -- What "the plan" promises: it is a choice of the loads' settings, it is admitted, and no admitted choice is better.
--- A choice that keeps every limit is admitted, so the plan is worth at least as much.
+-- A choice that keeps every limit is admitted, so the plan is worth at least as much. Where there is no plan, no choice is admitted.
 -- Assumes nothing.
 use mathlib.Core.Path.{_≡_, refl, sym, ap, _∙_, subst}
 use mathlib.Core.Bool.{Bool, true, false, cond}
@@ -13,7 +13,7 @@ use lib.ListN.{length}
 use Rattle.model.specs.Lists.{Mem, Every, keep}
 use Rattle.model.specs.Book.{Setting, Settings, Problem}
 use Rattle.model.specs.Choice.{Choice, IsChoice, choices, withEach, worthOf}
-use Rattle.model.specs.Grid.{Slot, slotsOf, keepsLimits, gridIn, Admissible, admitted, better, betterOf, best, bestAdmitted, plan, IsPlan}
+use Rattle.model.specs.Grid.{Slot, slotsOf, keepsLimits, Admitted, admitted, better, betterOf, best, bestAdmitted, plan, IsPlan}
 use Rattle.model.specs.Cells.{Key, beats, betterKey, join, bestKey, choiceKey}
 use Rattle.model.proofs.ListLaws.{every-imp, every-keep, every-kept, every-append, every-left, every-right}
 use Rattle.model.proofs.KeyLaws.{Versus, versus, less, tie-more, not-trans, not-both}
@@ -191,7 +191,7 @@ plan-is b c e =
     }
 
 -- where there is no plan, no choice is admitted
-pub plan-none : (b : Problem) → plan b ≡ none → (c : Choice) → IsChoice (b .loads) c → Every (λ s. Admissible s (gridIn s c)) (slotsOf b) → ⊥
+pub plan-none : (b : Problem) → plan b ≡ none → (c : Choice) → IsChoice (b .loads) c → Admitted (slotsOf b) c → ⊥
 unfolding plan bestAdmitted
 plan-none b e c m h =
     chosen-in (b .loads) (λ x. T (admitted (slotsOf b) x) → ⊥) c m

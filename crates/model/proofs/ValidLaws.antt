@@ -14,7 +14,7 @@ use Rattle.model.specs.Lists.{within, uptoFrom, upto, any, Every}
 use Rattle.model.specs.Bounds.{mostLoads, mostFineness}
 use Rattle.model.specs.Frames.{field, lineOf, afterLine}
 use Rattle.model.specs.Refusals.{Result, done, first, andThen}
-use Rattle.model.specs.Book.{Power, noPower, Setting, Settings, Problem, slotCount, loadCount, finenessIn, problem, optionCount, standingPairs, optionStart, powerAt, optionAt, options, standingPower, settings, lineRule, headerRules, reactiveExceeds, someExceeds, loadRules, endRules, readLoads, readBook}
+use Rattle.model.specs.Book.{Power, noPower, Setting, Settings, Problem, slotCount, loadCount, finenessIn, problem, optionCount, standingPairs, optionStart, powerAt, optionOn, options, standingPower, settings, lineRule, headerRules, reactiveExceeds, someExceeds, loadRules, endRules, readLoads, readBook}
 use Rattle.model.specs.Valid.{SettingKept, Numbered, Labelled, SettingSmall, ValidLoads, ValidBook}
 use Rattle.model.proofs.ListLaws.{both-true, within-is, every-imp, every-image, every-getD, any-false}
 use Rattle.model.proofs.UptoLaws.{length-upto}
@@ -37,10 +37,6 @@ kept-settings vs e =
 numbered-options : (f : ℕ → Setting) → ((j : ℕ) → f j .number ≡ suc j) → (i n : ℕ) → Numbered (suc i) (map f (uptoFrom i n))
 numbered-options f h i zero = tt
 numbered-options f h i (suc n) = (h i, numbered-options f h (suc i) n)
-
--- option j + 1 of a line
-abbrev optionOn : ℕ → List ℕ → ℕ → Setting
-optionOn t line j = optionAt t line (suc j) (optionStart t (standingPairs t line) j)
 
 labelled-settings : (t : ℕ) (line : List ℕ) → within 1 3 (optionCount line) ≡ true → Labelled (settings t line)
 labelled-settings t line e =

@@ -1,4 +1,4 @@
--- The book, what it says, and how it is read, with refusals 1 to 8 (document 01, "The book" and "Refusals by number").
+-- The book, what it says, and how it is read, with refusals 1 to 8 (document 01, "The book" and "Refusals by number"; document 02, M-104).
 use Prim.Native.Nat.{ℕ, zero, suc, _+_, _*_}
 use mathlib.Core.Bool.{Bool, cond, not, _&&_, _||_}
 use mathlib.Core.List.{List, [], _∷_, map}
@@ -73,8 +73,8 @@ loadKinds = 2 ∷ 6 ∷ []
 abbrev pub optionCount : List ℕ → ℕ
 optionCount line = field line 2 2
 
--- how many P and Q for standing a line carries, in a book of t slots: one for each slot where its kind is `06`, else none. Nothing else asks for
--- the kind.
+-- how many P and Q for standing a line carries, in a book of t slots: one for each slot where its kind is `06`, else none. Past
+-- refusal 3 nothing else asks for the kind.
 unfoldable pub standingPairs : ℕ → List ℕ → ℕ
 standingPairs t line = cond (eqb (field line 0 2) 6) t 0
 
@@ -91,8 +91,12 @@ abbrev pub optionAt : ℕ → List ℕ → ℕ → ℕ → Setting
 optionAt t line c at =
     record { number = c; worth = field line at 4; powers = map (λ s. powerAt line (at + 4 + 8 * s)) (upto t) }
 
+-- option j + 1 of a line
+abbrev pub optionOn : ℕ → List ℕ → ℕ → Setting
+optionOn t line j = optionAt t line (suc j) (optionStart t (standingPairs t line) j)
+
 abbrev pub options : ℕ → List ℕ → Settings
-options t line = map (λ j. optionAt t line (suc j) (optionStart t (standingPairs t line) j)) (upto (optionCount line))
+options t line = map (optionOn t line) (upto (optionCount line))
 
 -- WHAT STANDING DRAWS in slot s: the pair that the line carries for it. Document 01 has "0 is standing and draws nothing"; M-104: "a `02` line has
 -- zeros there"
@@ -135,11 +139,11 @@ headerRules line =
 abbrev pub reactiveExceeds : Power → Bool
 reactiveExceeds x = ltb (x .p) (natAbs (x .q))
 
--- "|Q| > P in some option and slot"; M-104: "Refusal 7 covers the standing pair too"
+-- |Q| > P in some setting and slot
 unfoldable pub someExceeds : Settings → Bool
 someExceeds vs = any (λ v. any reactiveExceeds (v .powers)) vs
 
--- 4: "o not 1 to 3"; 5, by the length of the line's kind; 7
+-- 4: "o not 1 to 3"; 5, by the line's own pairs; 7: "|Q| > P in some option and slot"; M-104: "Refusal 7 covers the standing pair too"
 unfoldable pub loadRules : ℕ → List ℕ → List Rule
 loadRules t line =
     hexRule line

@@ -29,16 +29,15 @@ fitting words room b = checked 0 (first (sizeRules b words room)) (done b)
 unfoldable pub fittingBook : List ℕ → ℕ → ℕ → Result Problem
 fittingBook bytes words room = andThen (readBook bytes) (fitting words room)
 
--- 17 (document 02, M-104): "when no choice is admitted"; so "The choice of all standing always is" admitted no longer holds
-abbrev pub planned : Option Choice → Result Choice
-planned none = refused NoPlan 0
-planned (some c) = done c
+-- 17 (document 02, M-104): "when no choice is admitted", as "All standing may now break a limit"; document 01's "The choice of all standing always is"
+-- went with that. Else the plan's sheet: "The result carries the planner's count, and it equals this number"
+abbrev pub planned : Problem → Option Choice → Result Output
+planned b none = refused NoPlan 0
+planned b (some c) = done (sheetOf b c (trials b))
 
--- 12: "trials over the budget"; 17 "comes after 12"; else the plan's sheet. "The result carries the planner's count, and it equals this number"
+-- 12: "trials over the budget"; 17 "comes after 12"
 unfoldable pub planSheet : Problem → Result Output
-planSheet b =
-    checked 0 (first ((ltb (b .budget) (trials b) ⇒ BudgetExceeded) ∷ []))
-    (andThen (planned (plan b)) (λ c. done (sheetOf b c (trials b))))
+planSheet b = checked 0 (first ((ltb (b .budget) (trials b) ⇒ BudgetExceeded) ∷ [])) (planned b (plan b))
 
 -- the planner's result, of the book's bytes, the number of words and the room: "no answer depends on what they held before"
 unfoldable pub plannerResult : List ℕ → ℕ → ℕ → Result Output

@@ -1,4 +1,4 @@
--- Choices, their worth, code and true sums (document 01, "Choice, sums and grid").
+-- Choices, their worth, code and true sums (document 01, "Choice, sums and grid"; document 02, M-104).
 use Prim.Native.Nat.{ℕ, zero, suc, _+_, _*_, _/_, _%_}
 use mathlib.Core.Bool.{Bool, cond, not}
 use mathlib.Core.List.{List, [], _∷_, _++_, map}

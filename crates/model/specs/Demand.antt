@@ -4,20 +4,19 @@ use Prim.Native.Nat.{ℕ, _+_, _*_, _<_, _≤_}
 use mathlib.Core.Path.{_≡_}
 use mathlib.Core.List.{List}
 use lib.ListN.{length, getD}
-use Rattle.model.specs.Lists.{Every}
 use Rattle.model.specs.Bounds.{mostCells}
 use Rattle.model.specs.Frames.{field}
 use Rattle.model.specs.Refusals.{done}
 use Rattle.model.specs.Book.{Problem, readBook}
-use Rattle.model.specs.Grid.{slotsOf, gridIn, Admissible}
+use Rattle.model.specs.Grid.{slotsOf, Admitted}
 use Rattle.model.specs.Trials.{cells, neededWords, trials}
 use Rattle.model.specs.Sheet.{sheetLength}
 use Rattle.model.specs.Choice.{Choice, IsChoice, noSetting, worthOf, sumIn, square, apparentSquared}
 
 -- ---- "Whenever no refusal applies there is a sheet."
 
--- none of refusals 1 to 12 applies to these bytes, with so many words and so much room: the book is read, and has none of 9 to 12
-pub record Searched (book : List ℕ) (words room : ℕ) (b : Problem) : Type 0 where
+-- none of refusals 1 to 12 applies to these bytes, with so many words and so much room: 1 to 8, 9, 10, 11 and 12 do not
+pub record Past12 (book : List ℕ) (words room : ℕ) (b : Problem) : Type 0 where
   pub reads : readBook book ≡ done b
   pub few : cells b ≤ mostCells
   pub wide : neededWords b ≤ words
@@ -28,15 +27,15 @@ pub record Searched (book : List ℕ) (words room : ℕ) (b : Problem) : Type 0 
 pub record SomeAdmitted (b : Problem) : Type 0 where
   pub choice : Choice
   pub of-book : IsChoice (b .loads) choice
-  pub admissible : Every (λ s. Admissible s (gridIn s choice)) (slotsOf b)
+  pub admissible : Admitted (slotsOf b) choice
 
 -- the number that the planner answers is 0 exactly where no refusal applies, and 17 (M-104) exactly where none of 1 to 12 does and "no choice is
 -- admitted"
 pub record Answered (book : List ℕ) (words room number : ℕ) : Type 0 where
-  pub sheet : (b : Problem) → Searched book words room b → SomeAdmitted b → number ≡ 0
-  pub sheet-only : number ≡ 0 → (b : Problem) × Searched book words room b × SomeAdmitted b
-  pub none : (b : Problem) → Searched book words room b → (SomeAdmitted b → ⊥) → number ≡ 17
-  pub none-only : number ≡ 17 → (b : Problem) × Searched book words room b × (SomeAdmitted b → ⊥)
+  pub sheet : (b : Problem) → Past12 book words room b → SomeAdmitted b → number ≡ 0
+  pub sheet-only : number ≡ 0 → (b : Problem) × Past12 book words room b × SomeAdmitted b
+  pub no-plan : (b : Problem) → Past12 book words room b → (SomeAdmitted b → ⊥) → number ≡ 17
+  pub no-plan-only : number ≡ 17 → (b : Problem) × Past12 book words room b × (SomeAdmitted b → ⊥)
 
 -- ---- of a sheet that was given
 

@@ -87,7 +87,10 @@ leastAbs l e (negsuc n) = suc n * l - e
 abbrev pub admits : Slot → GridPair → Bool
 admits s g = leb (square (g .p * s .step) + square (leastAbs (s .step) (spreadOf s) (g .q))) (square (s .limit))
 
--- "A choice is admitted when all its slots are"
+-- "A choice is admitted when all its slots are", and the test of it (proofs/AdmissionLaws, `admitted-is`)
+abbrev pub Admitted : List Slot → Choice → Type 0
+Admitted slots c = Every (λ s. Admissible s (gridIn s c)) slots
+
 abbrev pub admitted : List Slot → Choice → Bool
 admitted slots c = all (λ s. admits s (gridIn s c)) slots
 
@@ -117,6 +120,6 @@ plan b = bestAdmitted (slotsOf b) (b .loads)
 -- the same sentence as a property, without a test or an order of trying (proofs/PlanLaws, `plan-is`)
 pub record IsPlan (b : Problem) (c : Choice) : Type 0 where
   pub choice : IsChoice (b .loads) c
-  pub admissible : Every (λ s. Admissible s (gridIn s c)) (slotsOf b)
-  pub greatest : (other : Choice) → IsChoice (b .loads) other → Every (λ s. Admissible s (gridIn s other)) (slotsOf b)
+  pub admissible : Admitted (slotsOf b) c
+  pub greatest : (other : Choice) → IsChoice (b .loads) other → Admitted (slotsOf b) other
       → (worthOf other < worthOf c) ⊎ ((worthOf other ≡ worthOf c) × (codeOf c ≤ codeOf other))

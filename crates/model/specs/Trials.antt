@@ -1,4 +1,4 @@
--- Trials and the work area (document 01, "Trials and the work area").
+-- Trials and the work area (document 01, "Trials and the work area"; document 02, M-104).
 use Prim.Native.Nat.{ℕ, _+_, _*_, _/_}
 use mathlib.Core.Path.{_≡_}
 use mathlib.Core.Bool.{Bool, false, _&&_}

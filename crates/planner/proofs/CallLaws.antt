@@ -17,7 +17,7 @@ use Rattle.model.specs.Grid.{plan}
 use Rattle.model.specs.Trials.{trials, WordsKept}
 use Rattle.model.specs.Sheet.{sheetOf}
 use Rattle.model.specs.Calls.{fitting, fittingBook, planned, planSheet, plannerResult, freeFor, freeWords}
-use Rattle.model.specs.Answers.{Output, refusalAnswer, Writes}
+use Rattle.model.specs.Answers.{refusalAnswer, Writes}
 use Rattle.model.proofs.RefusalLaws.{first-here, first-last}
 use Rattle.model.proofs.AnswerLaws.{refused-writes}
 use Rattle.planner.specs.Planner.{fittedPlan}
@@ -36,19 +36,15 @@ unfolding freeWords fittingBook
 free-is book words room = refl
 
 module _ (b : Problem) where
-  -- the sheet of a plan, once there is one
-  abbrev due : Option Choice → Result Output
-  due m = andThen (planned m) (λ c. done (sheetOf b c (trials b)))
-
   pub plan-over : b .budget < trials b → planSheet b ≡ refused BudgetExceeded 0
   unfolding planSheet
-  plan-over h = ap (λ f. checked 0 f (due (plan b))) (first-here BudgetExceeded [] (ltb (b .budget) (trials b)) (lt-ltb _ _ h))
+  plan-over h = ap (λ f. checked 0 f (planned b (plan b))) (first-here BudgetExceeded [] (ltb (b .budget) (trials b)) (lt-ltb _ _ h))
 
   -- within the budget the plan decides
-  plan-due : (m : Option Choice) → trials b ≤ b .budget → plan b ≡ m → due m ≡ planSheet b
+  plan-due : (m : Option Choice) → trials b ≤ b .budget → plan b ≡ m → planned b m ≡ planSheet b
   unfolding planSheet
   plan-due m h e =
-      ap due (sym e) ∙ sym (ap (λ f. checked 0 f (due (plan b))) (first-last BudgetExceeded (ltb (b .budget) (trials b)) (le-ltb _ _ h)))
+      ap (planned b) (sym e) ∙ sym (ap (λ f. checked 0 f (planned b (plan b))) (first-last BudgetExceeded (ltb (b .budget) (trials b)) (le-ltb _ _ h)))
 
   pub plan-missing : trials b ≤ b .budget → plan b ≡ none → planSheet b ≡ refused NoPlan 0
   plan-missing h e = sym (plan-due none h e)

@@ -20,10 +20,10 @@ use Rattle.found.specs.Found.{Found}
 use Rattle.found.proofs.PickLaws.{code-picked, code-choice}
 use Rattle.planner.proofs.CallLaws.{plan-within}
 
-module _ (v : Book) (held : Held v) (s : Search) (found : Found (problemOf v) s) (within : s .within ≡ true) (some-is : s .admitted ≡ true) (picks : List ℕ)
+module _ (v : Book) (held : Held v) (s : Search) (found : Found (problemOf v) s) (within : s .within ≡ true) (admitted : s .admitted ≡ true) (picks : List ℕ)
     (digits : take (v .count) picks ≡ decode (v .count) (s .code)) where
   the-plan : (c : Choice) × (plan (problemOf v) ≡ some c) × (s .code ≡ codeOf c)
-  the-plan = found .planned within some-is
+  the-plan = found .planned within admitted
 
   the-digits : take (length (problemOf v .loads)) picks ≡ decode (length (problemOf v .loads)) (codeOf (the-plan .0))
   the-digits =

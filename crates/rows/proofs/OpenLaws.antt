@@ -1,4 +1,4 @@
--- Laws of `open_row`: a stretch that is emptied, and one into which a first setting that adds nothing is copied. Assumes nothing.
+-- Laws of `open_row`: a stretch that is emptied, and one into which a first setting that adds neither worth nor code is copied. Assumes nothing.
 use Prim.Native.Nat.{ℕ, _+_, _-_, _*_, _<_, _≤_}
 use mathlib.Core.Path.{_≡_, refl, sym, ap, ap₂, _∙_}
 use mathlib.Core.List.{List}
@@ -51,7 +51,7 @@ module _ {lows highs : List ℕ} (grid : Grid) (row : ℕ) (load : LoadMoves) (s
         (part : Stretch) (p : Part lows highs grid row (moveOf load 0) part) (h : part .low < part .high) (ends : Ends grid row (moveOf load 0) part)
         (from : ℕ) (source : from ≡ cur + (row - moveOf load 0 .back) * grid .width + (part .low + moveOf load 0 .down - moveOf load 0 .up))
         (f : Filled ws ws₁ at (span .high - span .low) (carriedRow ws from (part .low - span .low) (part .high - part .low))) where
-      -- what a setting that adds nothing offers is its source
+      -- what a setting that adds neither worth nor code offers is its source
       offer-source : (col : ℕ) → raiseUpto 1 (offerOf ws lows highs grid cur load row col) none ≡ sourceOf ws lows highs grid cur (moveOf load 0) row col
       unfolding raiseUpto offerOf
       offer-source col =

@@ -42,6 +42,22 @@ impl Load {
             None => standing::power(&self.standing, slot),
         }
     }
+
+    /// Whether |Q| ≤ P in every slot of every option.
+    pub fn options_within_active(&self) -> bool {
+        let mut options = self.levels.iter();
+        options.all(|level| within_active(&level.powers))
+    }
+
+    /// Whether |Q| ≤ P in every slot, in every option and standing.
+    fn within_active(&self) -> bool {
+        let mut standing = self.standing.iter();
+        self.options_within_active() && standing.all(|powers| within_active(powers))
+    }
+}
+
+fn within_active(powers: &[(i64, i64)]) -> bool {
+    powers.iter().all(|(p, q)| q.abs() <= *p)
 }
 
 impl Book {
@@ -92,11 +108,18 @@ pub fn number(digits: &[u8]) -> Option<u64> {
 
 /// The book in these bytes, or the first refusal of 1 to 8.
 pub fn read(bytes: &[u8]) -> Result<Book, Refusal> {
+    read_where(bytes, Load::within_active)
+}
+
+/// The same with another rule for refusal 7, which is given unless this holds of a load.
+pub fn read_where(bytes: &[u8], holds: fn(&Load) -> bool) -> Result<Book, Refusal> {
     let (line, mut rest) = next_line(bytes, 1, &[0x01])?;
     let (load_count, mut book) = header(&line)?;
     for k in 1..=load_count {
         let (line, after) = next_line(rest, k + 1, &standing::KINDS)?;
-        book.loads.push(load(&line, book.limits.len())?);
+        let load = load(&line, book.limits.len())?;
+        line.refuse_unless(holds(&load), 7)?;
+        book.loads.push(load);
         rest = after;
     }
     match rest {
@@ -157,7 +180,7 @@ fn header(line: &Line) -> Result<(u64, Book), Refusal> {
     Ok((load_count, book))
 }
 
-/// A load; refusals 4, 5 and 7.
+/// A load; refusals 4 and 5.
 fn load(line: &Line, slots: usize) -> Result<Load, Refusal> {
     let options = line.field(2, 2) as usize;
     line.refuse_unless((1..=3).contains(&options), 4)?;
@@ -165,14 +188,10 @@ fn load(line: &Line, slots: usize) -> Result<Load, Refusal> {
     let first = 4 + if carried { 8 * slots } else { 0 };
     let digits = 4 + 8 * slots;
     line.refuse_unless(line.digits.len() == first + options * digits, 5)?;
-    let load = Load {
+    Ok(Load {
         standing: carried.then(|| powers(line, 4, slots)),
         levels: (0..options).map(|i| level(line, first + i * digits, slots)).collect(),
-    };
-    let levels = load.levels.iter().map(|level| &level.powers);
-    let mut powers = levels.chain(&load.standing).flatten();
-    line.refuse_unless(powers.all(|&(p, q)| q.abs() <= p), 7)?;
-    Ok(load)
+    })
 }
 
 fn level(line: &Line, at: usize, slots: usize) -> Level {

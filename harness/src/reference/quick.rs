@@ -4,13 +4,23 @@ use super::book::Book;
 
 /// The choice that the quick planner makes: option 1 or standing for each load; none where all standing breaks a limit.
 pub fn choice(book: &Book) -> Option<Vec<usize>> {
+    choice_in(book, &order(book))
+}
+
+/// The loads in the order in which they are tried: by size, and among equals the lower number first.
+pub fn order(book: &Book) -> Vec<usize> {
+    let mut order: Vec<usize> = (0..book.loads.len()).collect();
+    order.sort_by_key(|&k| (size(book, k), k));
+    order
+}
+
+/// The choice where the loads are tried in this order.
+pub fn choice_in(book: &Book, order: &[usize]) -> Option<Vec<usize>> {
     let mut choice = vec![0; book.loads.len()];
     if !fits(book, &choice) {
         return None;
     }
-    let mut order: Vec<usize> = (0..book.loads.len()).collect();
-    order.sort_by_key(|&k| (size(book, k), k));
-    for k in order {
+    for &k in order {
         choice = taken(book, &choice, k).unwrap_or(choice);
     }
     Some(choice)

@@ -101,7 +101,7 @@ some-exceeds-requires c κs =
     let a = c .before .before .before .before .before .before .before .before .before .before .before .before .args in
     record {
       slots = c .before .before .before .before .before .before .before .before .before .before .before .before .pre;
-      drawn = c .before .before .standing-pairs .ensures;
+      carried = c .before .before .standing-pairs .ensures;
       options = rw (c .before .before .before .before .before .number .ensures) (in-range 1 3 (optionCount (a .line .now)) (few (c .before .before .before)) .1);
       stated = c .before .before .before .before .before .number .ensures;
       long = c .if4 .left ∙ c .before .option-start .ensures;

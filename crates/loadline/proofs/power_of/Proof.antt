@@ -3,14 +3,16 @@ use mathlib.Core.Path.{sym, ap, _∙_}
 use Prim.Native.Nat.{_+_, _-_, _*_, _≤_}
 use Rattle.model.specs.Book.{powerAt, optionStart}
 use Rattle.loadline.specs.LoadLine.{powerValue}
-use Rattle.loadline.proofs.LineLaws.{option-ranges, power-standing, power-past, power-no-slot, power-option, option-small, option-next, holds-option}
+use Rattle.loadline.proofs.LineLaws.{option-ranges, line-holds, power-standing, power-past, power-no-slot, power-option, option-small, option-next, holds-option}
 use native.Mathlib.Omega.{arith}
 use borrow.Author.Needs.{needs}
 use Rattle.loadline.proofs.power_of.Statement.{statement}
 use Rattle.loadline.proofs.power_of.Tie as tie
 
 standing-power-requires : tie.Need-standing-power-requires
-standing-power-requires c κs = search needs
+standing-power-requires c κs =
+    let s = c .before .before in
+    (s .pre .carried, line-holds (s .args .slots) (s .args .pairs) (s .args .count) (s .args .line .now) (s .pre))
 
 returns : tie.Need-returns
 returns c =
@@ -72,7 +74,7 @@ returns-4 c =
     let a = s .args in
     let h = s .pre in
     c .power-at .ensures
-    ∙ ap (λ j. powerValue (powerAt (a .line .now) (j + 4 + 8 * a .s))) (c .before .option-start .ensures ∙ ap (λ n. optionStart (a .slots) n (a .c - 1)) (h .drawn))
+    ∙ ap (λ j. powerValue (powerAt (a .line .now) (j + 4 + 8 * a .s))) (c .before .option-start .ensures ∙ ap (λ n. optionStart (a .slots) n (a .c - 1)) (h .carried))
     ∙ ap powerValue (sym (power-option (a .slots) (a .c) (a .s) (a .line .now) (omega arith) (omega arith) (omega arith)))
 
 pub power-of-spec : {M : Type 1} → statement M

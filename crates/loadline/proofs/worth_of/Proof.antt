@@ -33,7 +33,7 @@ returns-3 : tie.Need-returns-3
 returns-3 c =
     let a = c .before .before .before .before .before .args in
     let h = c .before .before .before .before .before .pre in
-    c .number .ensures ∙ rw (c .before .option-start .ensures, h .drawn, setting-option (a .slots) (a .c) (a .line .now) (omega arith) (omega arith))
+    c .number .ensures ∙ rw (c .before .option-start .ensures, h .carried, setting-option (a .slots) (a .c) (a .line .now) (omega arith) (omega arith))
 
 pub worth-of-spec : {M : Type 1} → statement M
 worth-of-spec =

@@ -7,7 +7,7 @@ use Rattle.model.specs.Answers.{Writes}
 use Rattle.model.specs.Calls.{plannerResult, fitting, freeFor}
 use Rattle.model.specs.Demand.{Demand3}
 use Rattle.model.proofs.AnswerLaws.{writes-same}
-use Rattle.model.proofs.AnsweredLaws.{answered-as}
+use Rattle.model.proofs.SheetGivenLaws.{answered-as}
 use Rattle.model.proofs.DemandLaws.{demand3}
 use Rattle.model.proofs.ReadingLaws.{reading-held, reading-done, reading-refused}
 use Rattle.planner.specs.Planner.{fittedPlan}

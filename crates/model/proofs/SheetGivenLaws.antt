@@ -1,7 +1,8 @@
--- When the planner gives a sheet, and when refusal 17, in both directions; and that the quick planner then gives 17 too.
+-- When the planner gives a sheet, and when refusal 17, in both directions; that no choice keeps the limits where it gives 17, that there is a sheet where all
+-- standing keeps them, and that the quick planner gives 17 where the planner does.
 -- Assumes nothing.
 use mathlib.Core.Path.{_≡_, refl, sym, ap, _∙_, subst}
-use mathlib.Core.Bool.{Bool, true, false, not}
+use mathlib.Core.Bool.{Bool, true, false}
 use mathlib.Core.Logic.{_⊎_, inl, inr}
 use mathlib.Core.List.{List, [], _∷_}
 use mathlib.Core.Option.{Option, none, some}
@@ -12,7 +13,7 @@ use lib.ListN.{length}
 use borrow.Author.Tests.{le-ltb, ltb-false}
 use Rattle.model.specs.declared.Answer.{Answer}
 use Rattle.model.specs.declared.Refusal.{Refusal}
-use Rattle.model.specs.declared.Refusal.the-variants.{BufferTooSmall, BudgetExceeded, NoPlan}
+use Rattle.model.specs.declared.Refusal.the-variants.{BudgetExceeded}
 use Rattle.model.specs.declared.Finding.{Finding}
 use Rattle.model.specs.declared.Finding.the-variants.{Passed, Refused}
 use Rattle.model.specs.Refusals.{Result, refused, done, _⇒_, first, checked, andThen, numberOf}
@@ -21,16 +22,16 @@ use Rattle.model.specs.Book.{Problem, readBook}
 use Rattle.model.specs.Choice.{Choice, IsChoice}
 use Rattle.model.specs.Grid.{slotsOf, keepsLimits, plan}
 use Rattle.model.specs.Trials.{cells, neededWords, trials}
-use Rattle.model.specs.Sheet.{sheetOf, sheetLength}
+use Rattle.model.specs.Sheet.{sheetLength}
 use Rattle.model.specs.Calls.{sizeRules, fitting, fittingBook, planned, planSheet, plannerResult}
-use Rattle.model.specs.Quick.{allStanding, quickChoice, quickRules, quickSheet, quickResult}
+use Rattle.model.specs.Quick.{allStanding, quickSheet, quickResult}
 use Rattle.model.specs.Valid.{ValidBook}
-use Rattle.model.specs.Demand.{Searched, SomeAdmitted, Answered}
+use Rattle.model.specs.Demand.{Past12, SomeAdmitted, Answered}
 use Rattle.model.specs.Answers.{answerOf}
-use Rattle.model.proofs.RefusalLaws.{number-some, NoneApplies, first-here, first-next, first-passed, first-none, first-most, RulesMost, NumberMost}
+use Rattle.model.proofs.RefusalLaws.{number-some, NoneApplies, first-passed, first-none, first-most, RulesMost, NumberMost}
 use Rattle.model.proofs.AdmissionLaws.{slots-for, keeps-admitted, admitted-is}
 use Rattle.model.proofs.PlanLaws.{chosen-length, plan-is, plan-none}
-use Rattle.model.proofs.QuickLaws.{standing-chosen}
+use Rattle.model.proofs.QuickLaws.{standing-chosen, quick-over}
 use Rattle.model.proofs.ValidLaws.{book-valid, book-most}
 
 -- a number that refusals 1 to 12 do not have
@@ -41,30 +42,49 @@ not-past : {A : Type 0} (r : Refusal) → numberOf r ≤ 12 → Past (numberOf r
 not-past r h (inl e) = absurd (number-some r e)
 not-past r h (inr l) = absurd (omega arith)
 
+-- ---- plans and admitted choices
+
+with-plan : (b : Problem) (c : Choice) → plan b ≡ some c → SomeAdmitted b
+with-plan b c e = record { choice = c; of-book = plan-is b c e .choice; admissible = plan-is b c e .admissible }
+
+without-plan : (b : Problem) → plan b ≡ none → SomeAdmitted b → ⊥
+without-plan b e a = plan-none b e (a .choice) (a .of-book) (a .admissible)
+
+-- a choice that keeps the limits is admitted
+keeps-some : (b : Problem) (c : Choice) → IsChoice (b .loads) c → T (keepsLimits (slotsOf b) c) → SomeAdmitted b
+keeps-some b c m k =
+    record {
+      choice = c;
+      of-book = m;
+      admissible = admitted-is (slotsOf b) c .0 (keeps-admitted (length (b .loads)) (slotsOf b) (slots-for b) c (chosen-length (b .loads) c m) k);
+    }
+
+-- ---- the planner's number
+
 module _ (book : List ℕ) (words room : ℕ) where
   size-rules-most : (b : Problem) → RulesMost 12 (sizeRules b words room)
   unfolding sizeRules
   size-rules-most b = (omega arith, (omega arith, (omega arith, tt)))
 
   -- what the planner answers once none of 1 to 12 applies
-  searched-result : (b : Problem) → Searched book words room b → plannerResult book words room ≡ andThen (planned (plan b)) (λ c. done (sheetOf b c (trials b)))
+  pub past-result : (b : Problem) → Past12 book words room b → plannerResult book words room ≡ planned b (plan b)
   unfolding plannerResult fittingBook planSheet sizeRules
-  searched-result b h =
+  past-result b h =
       ap (λ x. andThen (andThen x (fitting words room)) planSheet) (h .reads)
       ∙ ap (λ f. andThen (checked 0 f (done b)) planSheet)
       (first-none (sizeRules b words room)
       (le-ltb mostCells (cells b) (h .few), (le-ltb words (neededWords b) (h .wide), (le-ltb room (sheetLength b) (h .long), tt))))
-      ∙ ap (λ f. checked 0 f (andThen (planned (plan b)) (λ c. done (sheetOf b c (trials b)))))
+      ∙ ap (λ f. checked 0 f (planned b (plan b)))
       (first-none ((ltb (b .budget) (trials b) ⇒ BudgetExceeded) ∷ []) (le-ltb (b .budget) (trials b) (h .enough), tt))
 
   -- and a number past theirs is given only there
-  searched-only : Past (answerOf (plannerResult book words room) .number) → (b : Problem) × Searched book words room b
+  pub past-only : Past (answerOf (plannerResult book words room) .number) → (b : Problem) × Past12 book words room b
   unfolding plannerResult fittingBook planSheet sizeRules first
-  searched-only p = at-book (readBook book) refl (book-most book) p
+  past-only p = at-book (readBook book) refl (book-most book) p
     where
       at-budget : (b : Problem) → readBook book ≡ done b → first (sizeRules b words room) ≡ Passed → (t : Bool) → ltb (b .budget) (trials b) ≡ t
-          → Past (answerOf (checked 0 (first ((t ⇒ BudgetExceeded) ∷ [])) (andThen (planned (plan b)) (λ c. done (sheetOf b c (trials b))))) .number)
-          → (b : Problem) × Searched book words room b
+          → Past (answerOf (checked 0 (first ((t ⇒ BudgetExceeded) ∷ [])) (planned b (plan b))) .number)
+          → (b : Problem) × Past12 book words room b
       at-budget b e f true q p = not-past BudgetExceeded (omega arith) p
       at-budget b e f false q p =
           let n : NoneApplies (sizeRules b words room) = first-passed (sizeRules b words room) f in (
@@ -79,51 +99,41 @@ module _ (book : List ℕ) (words room : ℕ) where
           )
 
       at-size : (b : Problem) → readBook book ≡ done b → (f : Finding) → first (sizeRules b words room) ≡ f
-          → Past (answerOf (andThen (checked 0 f (done b)) planSheet) .number) → (b : Problem) × Searched book words room b
+          → Past (answerOf (andThen (checked 0 f (done b)) planSheet) .number) → (b : Problem) × Past12 book words room b
       at-size b e (Refused r) q p = not-past r (first-most 12 (sizeRules b words room) r (size-rules-most b) q) p
       at-size b e Passed q p = at-budget b e q (ltb (b .budget) (trials b)) refl p
 
       at-book : (x : Result Problem) → readBook book ≡ x → NumberMost 8 x → Past (answerOf (andThen (andThen x (fitting words room)) planSheet) .number)
-          → (b : Problem) × Searched book words room b
+          → (b : Problem) × Past12 book words room b
       at-book (refused r line) e h p = not-past r (omega arith) p
       at-book (done b) e h p = at-size b e (first (sizeRules b words room)) refl p
 
-  -- the number with a plan, and without
-  abbrev numbered : Problem → Option Choice → ℕ
-  numbered b m = answerOf (andThen (planned m) (λ c. done (sheetOf b c (trials b)))) .number
-
-  number-is : (b : Problem) → Searched book words room b → answerOf (plannerResult book words room) .number ≡ numbered b (plan b)
-  number-is b h = ap (λ x. answerOf x .number) (searched-result b h)
-
-  with-plan : (b : Problem) (c : Choice) → plan b ≡ some c → SomeAdmitted b
-  with-plan b c e = record { choice = c; of-book = plan-is b c e .choice; admissible = plan-is b c e .admissible }
-
-  without-plan : (b : Problem) → plan b ≡ none → SomeAdmitted b → ⊥
-  without-plan b e a = plan-none b e (a .choice) (a .of-book) (a .admissible)
+  number-is : (b : Problem) → Past12 book words room b → answerOf (plannerResult book words room) .number ≡ answerOf (planned b (plan b)) .number
+  number-is b h = ap (λ x. answerOf x .number) (past-result b h)
 
   -- WHEN A SHEET IS GIVEN, AND WHEN 17
   answered : Answered book words room (answerOf (plannerResult book words room) .number)
   answered =
       record {
         sheet = λ b h a. number-is b h ∙ given b a (plan b) refl;
-        sheet-only = λ e. let x = searched-only (inl e) in (x .0, x .1, found (x .0) (plan (x .0)) refl (sym (number-is (x .0) (x .1)) ∙ e));
-        none = λ b h n. number-is b h ∙ missing b n (plan b) refl;
-        none-only = λ e. let x = searched-only (inr (omega (arith, e))) in (x .0, x .1, lacking (x .0) (plan (x .0)) refl (sym (number-is (x .0) (x .1)) ∙ e));
+        sheet-only = λ e. let x = past-only (inl e) in (x .0, x .1, found (x .0) (plan (x .0)) refl (sym (number-is (x .0) (x .1)) ∙ e));
+        no-plan = λ b h n. number-is b h ∙ missing b n (plan b) refl;
+        no-plan-only = λ e. let x = past-only (inr (omega (arith, e))) in (x .0, x .1, lacking (x .0) (plan (x .0)) refl (sym (number-is (x .0) (x .1)) ∙ e));
       }
     where
-      given : (b : Problem) → SomeAdmitted b → (m : Option Choice) → plan b ≡ m → numbered b m ≡ 0
+      given : (b : Problem) → SomeAdmitted b → (m : Option Choice) → plan b ≡ m → answerOf (planned b m) .number ≡ 0
       given b a none e = absurd (without-plan b e a)
       given b a (some c) e = refl
 
-      found : (b : Problem) (m : Option Choice) → plan b ≡ m → numbered b m ≡ 0 → SomeAdmitted b
+      found : (b : Problem) (m : Option Choice) → plan b ≡ m → answerOf (planned b m) .number ≡ 0 → SomeAdmitted b
       found b none e q = absurd (omega arith)
       found b (some c) e q = with-plan b c e
 
-      missing : (b : Problem) → (SomeAdmitted b → ⊥) → (m : Option Choice) → plan b ≡ m → numbered b m ≡ 17
+      missing : (b : Problem) → (SomeAdmitted b → ⊥) → (m : Option Choice) → plan b ≡ m → answerOf (planned b m) .number ≡ 17
       missing b n none e = refl
       missing b n (some c) e = absurd (n (with-plan b c e))
 
-      lacking : (b : Problem) (m : Option Choice) → plan b ≡ m → numbered b m ≡ 17 → SomeAdmitted b → ⊥
+      lacking : (b : Problem) (m : Option Choice) → plan b ≡ m → answerOf (planned b m) .number ≡ 17 → SomeAdmitted b → ⊥
       lacking b none e q = without-plan b e
       lacking b (some c) e q = absurd (omega arith)
 
@@ -131,35 +141,33 @@ module _ (book : List ℕ) (words room : ℕ) where
 pub answered-as : (book : List ℕ) (words room : ℕ) (a : Answer) → a ≡ answerOf (plannerResult book words room) → Answered book words room (a .number)
 answered-as book words room a e = subst (λ (x : Answer). Answered book words room (x .number)) (sym e) (answered book words room)
 
--- a book without a plan has no quick sheet either: all standing would be admitted if it kept the limits
-module _ (b : Problem) (valid : ValidBook b) (none-is : SomeAdmitted b → ⊥) where
-  standing-over : keepsLimits (slotsOf b) (allStanding b) ≡ false
-  standing-over = go (keepsLimits (slotsOf b) (allStanding b)) refl
-    where
-      chosen : IsChoice (b .loads) (allStanding b)
-      chosen = standing-chosen b valid
+-- 17 says that no choice of the book keeps the limits
+pub none-keeps : (book : List ℕ) (words room : ℕ) → answerOf (plannerResult book words room) .number ≡ 17
+    → (b : Problem) × (readBook book ≡ done b) × ((c : Choice) → IsChoice (b .loads) c → T (keepsLimits (slotsOf b) c) → ⊥)
+none-keeps book words room e =
+    let x = answered book words room .no-plan-only e in
+    (x .0, x .1 .reads, λ c m k. x .2 (keeps-some (x .0) c m k))
 
-      go : (t : Bool) → keepsLimits (slotsOf b) (allStanding b) ≡ t → t ≡ false
-      go false e = refl
-      go true e =
-          absurd
-          (none-is (record {
-            choice = allStanding b;
-            of-book = chosen;
-            admissible = admitted-is (slotsOf b) (allStanding b) .0
-                (keeps-admitted (length (b .loads)) (slotsOf b) (slots-for b) (allStanding b) (chosen-length (b .loads) (allStanding b) chosen) (subst T (sym e) tt));
-          }))
+-- ---- all standing
 
-  quick-missing : (room : ℕ) → sheetLength b ≤ room → answerOf (quickSheet room b) .number ≡ 17
-  unfolding quickSheet quickRules
-  quick-missing room long =
-      ap (λ f. answerOf (checked 0 f (done (sheetOf b (quickChoice b) (length (b .loads))))) .number)
-      (first-next BufferTooSmall _ _ (le-ltb room (sheetLength b) long) ∙ first-here NoPlan [] _ (ap not standing-over))
+-- where all standing keeps the limits there is a sheet, once none of 1 to 12 applies
+pub standing-planned : (book : List ℕ) (words room : ℕ) (b : Problem) → Past12 book words room b → T (keepsLimits (slotsOf b) (allStanding b))
+    → answerOf (plannerResult book words room) .number ≡ 0
+standing-planned book words room b h k =
+    answered book words room .sheet b h (keeps-some b (allStanding b) (standing-chosen b (book-valid book b (h .reads))) k)
+
+-- where no choice is admitted all standing breaks a limit
+standing-over : (b : Problem) → ValidBook b → (SomeAdmitted b → ⊥) → keepsLimits (slotsOf b) (allStanding b) ≡ false
+standing-over b valid n = go (keepsLimits (slotsOf b) (allStanding b)) refl
+  where
+    go : (t : Bool) → keepsLimits (slotsOf b) (allStanding b) ≡ t → t ≡ false
+    go false e = refl
+    go true e = absurd (n (keeps-some b (allStanding b) (standing-chosen b valid) (subst T (sym e) tt)))
 
 -- WHERE THE PLANNER GIVES 17, the quick planner gives it too, with a buffer that suffices
 pub quick-none : (book : List ℕ) (words room : ℕ) → answerOf (plannerResult book words room) .number ≡ 17 → answerOf (quickResult book room) .number ≡ 17
 unfolding quickResult
 quick-none book words room e =
-    let x = answered book words room .none-only e in
+    let x = answered book words room .no-plan-only e in
     ap (λ r. answerOf (andThen r (quickSheet room)) .number) (x .1 .reads)
-    ∙ quick-missing (x .0) (book-valid book (x .0) (x .1 .reads)) (x .2) room (x .1 .long)
+    ∙ ap (λ r. answerOf r .number) (quick-over (x .0) room (x .1 .long) (standing-over (x .0) (book-valid book (x .0) (x .1 .reads)) (x .2)))
