@@ -76,7 +76,7 @@ extern "C" {
 #endif
 
 /* Bounds. Buffers of these sizes are large enough for every book. */
-#define JADESHUTTLE_BOOK_MAX 3513     /* bytes of the longest book: 33 + 24 x 145 for T = 4, three levels, kind 06 */
+#define JADESHUTTLE_BOOK_MAX 3513     /* bytes of the longest book: T = 4, N = 24, kind 06, three levels each */
 #define JADESHUTTLE_SHEET_MAX 159     /* bytes of the longest sheet: 19 + 2N + 23T for N = 24, T = 4 */
 #define JADESHUTTLE_ORDER_MAX 24      /* bytes of the longest order: N = 24 */
 #define JADESHUTTLE_VIEW_MAX 107      /* bytes of the longest view: the mill's, 11 + 4N for N = 24 */
@@ -197,7 +197,8 @@ jadeshuttle_answer jadeshuttle_plan(const uint8_t *book, size_t book_len,
  *
  * Gives 1 to 8, 11, and then 17 where the true sums of all standing break a limit,
  * even where running some load would draw less. So it can give 17 where the planner
- * has a sheet. Where the planner gives 17, it gives 17 too, in a buffer as long.
+ * has a sheet. Where the planner gives 17, this call gives 17 too, for a buffer of
+ * the same length.
  */
 jadeshuttle_answer jadeshuttle_quick(const uint8_t *book, size_t book_len,
                                      uint8_t *sheet, size_t sheet_len);

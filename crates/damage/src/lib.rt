@@ -231,8 +231,8 @@ fn wrong_length(text: &mut [u8], end: u64, seed: u64) -> Drawn {
     }
 }
 
-// Document 02 gives the kinds 06 to 08 to lines of a book. The bench has document 01's books, in which they are not due; 03, which no line has, stands
-// in for them.
+// Document 02 gives the kinds 06 to 08 to lines of a book, so that a reader may take them. The bench has document 01's books only; 03, which no line
+// has, stands in for them as a fault.
 fn of_no_line(kind: u64) -> u64 {
     if 5 < kind {
         if kind < 9 {

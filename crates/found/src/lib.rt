@@ -1,4 +1,4 @@
-// What the search finds: the trials of a book whose table fits the work area, and the plan's code; and the numbers of a code.
+// What the search finds: the trials of a book whose table fits the work area, and the plan's code or that there is no plan; and the numbers of a code.
 use layout::Layout;
 use model::Book;
 use slots::Slots;
@@ -14,7 +14,7 @@ ghost use Rattle.slots.specs.Slots.{SlotsIn};
 ghost use Rattle.layout.specs.Layout.{LayoutIs};
 ghost use Rattle.found.specs.Found.{Found};
 
-// Whether the trials are within the budget; if so, their number, whether a choice is admitted, and the code of the plan.
+// Whether the trials are within the budget; if so, their number, and whether a choice is admitted; if one is, the code of the plan.
 pub struct Search {
     pub within: bool,
     pub trials: u64,

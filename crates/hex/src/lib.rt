@@ -1,4 +1,4 @@
-// Hexadecimal digits, numbers and lines in a slice of bytes, read and written; whether a number is in its range and a line of its kind.
+// Hexadecimal digits, numbers and lines in a slice of bytes, read and written; whether a number is in its range and a line of a kind that is due.
 ghost use mathlib.Core.Path.{_≡_};
 ghost use mathlib.Core.Bool.{not};
 ghost use Prim.Native.Nat.{_+_, _≤_, _<_};

@@ -50,7 +50,7 @@ pairs-most t line = go (eqb (field line 0 2) 6)
     go true = omega arith
     go false = omega arith
 
-pub pairs-few : (t pairs o : ℕ) (line : List ℕ) → LoadLine t pairs o line → pairs ≤ t
+pairs-few : (t pairs o : ℕ) (line : List ℕ) → LoadLine t pairs o line → pairs ≤ t
 pairs-few t pairs o line h = omega (arith, h .carried, pairs-most t line)
 
 pub option-next : (t pairs j : ℕ) → optionStart t pairs (j + 1) ≡ optionStart t pairs j + (4 + 8 * t)

@@ -1,6 +1,6 @@
 -- The proved table: document 01's starred cases ("Trials at the bench"), the ends of M-102's range, two overloads near M-106's bound, charges (M-100),
--- orders of starting (M-101), views (M-103), standing loads that draw (M-104), and edges where a near mistake shows, as one table of facts about the definitions, with one statement covering
--- it. Star n is the n-th star of document 01.
+-- orders of starting (M-101), views (M-103), standing loads that draw (M-104), and edges where a near mistake shows, as one table of facts about the
+-- definitions, with one statement covering it. Star n is the n-th star of document 01.
 -- Assumes nothing.
 use mathlib.Core.Path.{_≡_, refl, ap₂, _∙_}
 use mathlib.Core.Bool.{Bool, true, false, _&&_}
@@ -363,21 +363,26 @@ sheetRows =
 
 plan-rows-hold : all holds planRows ≡ true
 unfolding holds planRows programOutput refusalLine plannerResult planSheet fittingBook sizeRules
-    readBook readLoads headerRules loadRules someExceeds standingPairs optionStart standingPower first isDigit digitValue digit valueFrom field digits signed unsigned lineLength
-    slotsOf plan bestAdmitted cells trials reachedCount sheetBytes firstLine slotLines sumsAndLimits slotLine numbersOf quickResult quickSheet quickRules quickChoice takeIfFits sizeOf optionOne
+    readBook readLoads headerRules loadRules someExceeds standingPairs optionStart standingPower first
+    isDigit digitValue digit valueFrom field digits signed unsigned lineLength
+    slotsOf plan bestAdmitted cells trials reachedCount sheetBytes firstLine slotLines sumsAndLimits slotLine numbersOf
+    quickResult quickSheet quickRules quickChoice takeIfFits sizeOf optionOne
 plan-rows-hold = refl
 
 standing-rows-hold : all holds standingRows ≡ true
 unfolding holds standingRows programOutput refusalLine plannerResult planSheet fittingBook sizeRules
-    readBook readLoads headerRules loadRules someExceeds standingPairs optionStart standingPower first isDigit digitValue digit valueFrom field digits signed unsigned lineLength
-    slotsOf plan bestAdmitted cells trials reachedCount sheetBytes firstLine slotLines sumsAndLimits slotLine numbersOf quickResult quickSheet quickRules quickChoice takeIfFits sizeOf optionOne
+    readBook readLoads headerRules loadRules someExceeds standingPairs optionStart standingPower first
+    isDigit digitValue digit valueFrom field digits signed unsigned lineLength
+    slotsOf plan bestAdmitted cells trials reachedCount sheetBytes firstLine slotLines sumsAndLimits slotLine numbersOf
+    quickResult quickSheet quickRules quickChoice takeIfFits sizeOf optionOne
     sheetChoice chargeResult sheetCharge choiceCharge chargeOf rounded accepted shown runningLoads numberAndLevel millLine millResult supplyView supplyResult
     orderResult sheetsOrder loadsOrder starting runningMask andNot startCount wrongNames someBlocked left ready startNext startedAfter startOrder ones onesIn
 standing-rows-hold = refl
 
 sheet-rows-hold : all holds sheetRows ≡ true
 unfolding holds sheetRows refusalLine
-    readBook readLoads headerRules loadRules someExceeds standingPairs optionStart standingPower first isDigit digitValue digit valueFrom field digits signed unsigned lineLength
+    readBook readLoads headerRules loadRules someExceeds standingPairs optionStart standingPower first
+    isDigit digitValue digit valueFrom field digits signed unsigned lineLength
     sheetBytes firstLine slotLines sumsAndLimits slotLine numbersOf sheetChoice
     chargeResult sheetCharge choiceCharge chargeOf rounded
     accepted shown runningLoads numberAndLevel millLine millResult supplyView supplyResult

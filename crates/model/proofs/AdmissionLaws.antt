@@ -9,10 +9,9 @@ use native.Mathlib.Omega.{arith}
 use lib.Dec.{T, leb, leb→le, le→leb}
 use lib.IntN.{ℤ, pos, negsuc, negℤ, natAbs, subℕ, _+ℤ_, +ℤ-assoc, +ℤ-comm}
 use lib.ListN.{length}
-use Rattle.model.specs.Lists.{Every}
 use Rattle.model.specs.Book.{Power, Problem}
 use Rattle.model.specs.Choice.{Choice, plus, powerIn, sumIn, square, squareℤ, apparentSquared}
-use Rattle.model.specs.Grid.{Slot, spreadOf, slotsFrom, slotsOf, keepsLimits, floorDiv, GridPair, gridOf, gridIn, times, Admissible, leastAbs, admits, admitted}
+use Rattle.model.specs.Grid.{Slot, spreadOf, slotsFrom, slotsOf, keepsLimits, floorDiv, GridPair, gridOf, gridIn, times, Admissible, leastAbs, admits, Admitted, admitted}
 use Rattle.model.specs.Trials.{gridTop}
 use Rattle.model.specs.Index.{up, down}
 use Rattle.model.specs.Valid.{SlotsFor}
@@ -81,18 +80,18 @@ of-admits s g t =
 pub admits-is : (s : Slot) (g : GridPair) → T (admits s g) ↔ Admissible s g
 admits-is s g = (of-admits s g, admits-of s g)
 
-all-admissible : (slots : List Slot) (c : Choice) → T (admitted slots c) → Every (λ s. Admissible s (gridIn s c)) slots
+all-admissible : (slots : List Slot) (c : Choice) → T (admitted slots c) → Admitted slots c
 all-admissible [] c t = tt
 all-admissible (s ∷ slots) c t =
     let h : T (admits s (gridIn s c)) × T (admitted slots c) = both (admits s (gridIn s c)) (admitted slots c) t in
     (of-admits s (gridIn s c) (h .0), all-admissible slots c (h .1))
 
-all-admitted : (slots : List Slot) (c : Choice) → Every (λ s. Admissible s (gridIn s c)) slots → T (admitted slots c)
+all-admitted : (slots : List Slot) (c : Choice) → Admitted slots c → T (admitted slots c)
 all-admitted [] c h = tt
 all-admitted (s ∷ slots) c h =
     each (admits s (gridIn s c)) (admitted slots c) (admits-of s (gridIn s c) (h .0)) (all-admitted slots c (h .1))
 
-pub admitted-is : (slots : List Slot) (c : Choice) → T (admitted slots c) ↔ Every (λ s. Admissible s (gridIn s c)) slots
+pub admitted-is : (slots : List Slot) (c : Choice) → T (admitted slots c) ↔ Admitted slots c
 admitted-is slots c = (all-admissible slots c, all-admitted slots c)
 
 -- ---- the true sums are near the grid

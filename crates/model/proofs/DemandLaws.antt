@@ -159,7 +159,7 @@ worth-small b c g m =
     low : (vs : Settings) (v : Setting) → Every SettingSmall vs → Mem v vs → v .worth ≤ 65535
     low vs v h k = below v (every-mem SettingSmall v vs k h)
 
-pub sheet-demand3 : (book : List ℕ) (b : Problem) (c : Choice) (t : ℕ) (past : List ℕ) → readBook book ≡ done b → plan b ≡ some c
+sheet-demand3 : (book : List ℕ) (b : Problem) (c : Choice) (t : ℕ) (past : List ℕ) → readBook book ≡ done b → plan b ≡ some c
     → Demand3 book (sheetBytes b c t ++ past)
 unfolding plan slotsOf
 sheet-demand3 book b c t past e p =

@@ -22,6 +22,7 @@ pub mod SheetLaws
 pub mod CodeLaws
 pub mod QuickLaws
 pub mod SheetGivenLaws
+pub mod PlainLaws
 pub mod DemandLaws
 pub mod ValueLaws
 pub mod RaisedLaws

@@ -1,4 +1,4 @@
--- The table of refusals: what a result that came through it tells, that no refusal has number 0, and which number it has at most.
+-- The table of refusals: what a result that came through it tells, that no refusal has number 0, and how large its number can be in a table or a result.
 -- Assumes nothing.
 use mathlib.Core.Path.{_≡_, refl, sym, ap, _∙_, subst}
 use mathlib.Core.Bool.{Bool, true, false, cond}
@@ -103,10 +103,11 @@ number-some NoPlan e = omega arith
 
 -- a refusal, where there is one, has a number of at most n
 module _ (n : ℕ) where
-  -- each row's refusal has
+  -- of the rows of a table
   abbrev pub RulesMost : List Rule → Type 0
   RulesMost rs = Every (λ x. numberOf (x .refusal) ≤ n) rs
 
+  -- of a result
   abbrev pub NumberMost : {A : Type 0} → Result A → Type 0
   NumberMost (refused r line) = numberOf r ≤ n
   NumberMost (done x) = Unit {0}

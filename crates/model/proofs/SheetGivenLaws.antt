@@ -77,7 +77,7 @@ module _ (book : List ℕ) (words room : ℕ) where
       ∙ ap (λ f. checked 0 f (planned b (plan b)))
       (first-none ((ltb (b .budget) (trials b) ⇒ BudgetExceeded) ∷ []) (le-ltb (b .budget) (trials b) (h .enough), tt))
 
-  -- and a number past theirs is given only there
+  -- and a number that they do not have is given only there
   pub past-only : Past (answerOf (plannerResult book words room) .number) → (b : Problem) × Past12 book words room b
   unfolding plannerResult fittingBook planSheet sizeRules first
   past-only p = at-book (readBook book) refl (book-most book) p
@@ -164,7 +164,7 @@ standing-over b valid n = go (keepsLimits (slotsOf b) (allStanding b)) refl
     go false e = refl
     go true e = absurd (n (keeps-some b (allStanding b) (standing-chosen b valid) (subst T (sym e) tt)))
 
--- WHERE THE PLANNER GIVES 17, the quick planner gives it too, with a buffer that suffices
+-- WHERE THE PLANNER GIVES 17, the quick planner gives it too, with room for as many bytes
 pub quick-none : (book : List ℕ) (words room : ℕ) → answerOf (plannerResult book words room) .number ≡ 17 → answerOf (quickResult book room) .number ≡ 17
 unfolding quickResult
 quick-none book words room e =

@@ -66,7 +66,8 @@ small-none = record { active = omega arith; reactive = omega arith }
 small-at : (line : List ℕ) (at : ℕ) → Small (powerAt line at)
 small-at line at = record { active = field-below line at 4; reactive = signed-small (field line (at + 4) 4) (field-below line (at + 4) 4) }
 
-small-setting : (c w : ℕ) (f : ℕ → Power) (t : ℕ) → w < 65536 → ((s : ℕ) → Small (f s)) → SettingSmall (record { number = c; worth = w; powers = map f (upto t) })
+small-setting : (c w : ℕ) (f : ℕ → Power) (t : ℕ) → w < 65536 → ((s : ℕ) → Small (f s))
+    → SettingSmall (record { number = c; worth = w; powers = map f (upto t) })
 small-setting c w f t h k =
     let each : (slot : ℕ) → Small (getD (map f (upto t)) slot noPower) = every-getD Small (map f (upto t)) noPower small-none (every-image Small f (upto t) k) in
     record { worth = h; active = λ slot. each slot .active; reactive = λ slot. each slot .reactive }
@@ -92,7 +93,8 @@ small-settings t line = (
 good-none : (t : ℕ) → ValidLoads 0 t []
 good-none t = record { count = refl; keeps = tt; labels = tt; powers = tt; small = tt }
 
-good-more : (n t : ℕ) (line : List ℕ) (loads : List Settings) → NoneApplies (loadRules t line) → ValidLoads n t loads → ValidLoads (suc n) t (settings t line ∷ loads)
+good-more : (n t : ℕ) (line : List ℕ) (loads : List Settings) → NoneApplies (loadRules t line) → ValidLoads n t loads
+    → ValidLoads (suc n) t (settings t line ∷ loads)
 unfolding loadRules
 good-more n t line loads rules g =
     record {

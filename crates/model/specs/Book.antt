@@ -73,7 +73,7 @@ loadKinds = 2 ∷ 6 ∷ []
 abbrev pub optionCount : List ℕ → ℕ
 optionCount line = field line 2 2
 
--- how many P and Q for standing a line carries, in a book of t slots: one for each slot where its kind is `06`, else none. Past
+-- how many pairs of P and Q for standing a line carries, in a book of t slots: one for each slot where its kind is `06`, else none. Past
 -- refusal 3 nothing else asks for the kind.
 unfoldable pub standingPairs : ℕ → List ℕ → ℕ
 standingPairs t line = cond (eqb (field line 0 2) 6) t 0

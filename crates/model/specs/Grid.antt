@@ -1,4 +1,4 @@
--- The grid, admission and the plan (document 01, "Choice, sums and grid").
+-- The grid, admission and the plan (document 01, "Choice, sums and grid"; document 02, M-104).
 use Prim.Native.Nat.{ℕ, suc, _+_, _*_, _-_, _/_, _<_, _≤_, max}
 use mathlib.Core.Path.{_≡_}
 use mathlib.Core.Logic.{_⊎_}
@@ -50,7 +50,8 @@ GridPair = Power
 abbrev pub gridOf : ℕ → Power → GridPair
 gridOf l x = record { p = x .p / l; q = floorDiv (x .q) l }
 
--- "For a choice, a and b are the sums of the grid values of the chosen P and Q, each rounded first"
+-- "For a choice, a and b are the sums of the grid values of the chosen P and Q, each rounded first"; M-104: "Sums, grid values and H count the standing
+-- pair where c is 0"
 abbrev pub gridIn : Slot → Choice → GridPair
 gridIn s [] = noPower
 gridIn s (v ∷ c) = plus (gridOf (s .step) (powerIn (s .place) v)) (gridIn s c)

@@ -1,4 +1,4 @@
--- The quick planner's sheet, or refusal 11.
+-- The quick planner's sheet, or refusal 11; 17 is model's `quick-over`.
 -- Assumes nothing.
 use mathlib.Core.Path.{_≡_, sym, ap, _∙_}
 use mathlib.Core.Bool.{true, not}

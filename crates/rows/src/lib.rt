@@ -78,7 +78,7 @@ pub fn settings_row(
 }
 
 // Whether the first setting of a load adds neither worth nor code, as standing does.
-fn adds_no_worth(load: LoadMoves) -> bool
+fn adds_no_key(load: LoadMoves) -> bool
     ensures { λ r. ⌜ (r ≡ true → (0 < load .count) × (moveOf load 0 .gain ≡ 0) × (moveOf load 0 .digit ≡ 0)) ⌝ }
 {
     let mv = load.moves[0];
@@ -114,7 +114,7 @@ pub fn open_row(
     ensures { λ r. ⌜ Opened (now (work .entry)) (now (work .exit)) (now (lows .entry)) (now (highs .entry)) grid cur next load row s r ⌝ }
 {
     let len = s.high - s.low;
-    if adds_no_worth(load) {
+    if adds_no_key(load) {
         let mv = load.moves[0];
         let part = stretch::part_of(grid, lows, highs, row, mv);
         if part.low < part.high {

@@ -13,15 +13,15 @@ use Rattle.rows.proofs.open_row.Tie as tie
 sub-len : tie.Need-sub-len
 sub-len c = search needs
 
-adds-no-worth-requires : tie.Need-adds-no-worth-requires
-adds-no-worth-requires c κs = search needs
+adds-no-key-requires : tie.Need-adds-no-key-requires
+adds-no-key-requires c κs = search needs
 
 element-copy-out-mv : tie.Need-element-copy-out-mv
 element-copy-out-mv c = search needs
 
 -- the first setting adds neither worth nor code
 still : (c : tie.Then1) → (0 < c .before .before .before .before .args .t8 .count) × (moveOf (c .before .before .before .before .args .t8) 0 .gain ≡ 0) × (moveOf (c .before .before .before .before .args .t8) 0 .digit ≡ 0)
-still c = c .before .adds-no-worth .ensures (c .if1 .taken)
+still c = c .before .adds-no-key .ensures (c .if1 .taken)
 
 part-of-requires : tie.Need-part-of-requires
 part-of-requires c κs =
@@ -85,4 +85,4 @@ returns-2 c =
 pub open-row-spec : {M : Type 1} → statement M
 open-row-spec =
     tie.close
-    (tie.spec sub-len adds-no-worth-requires element-copy-out-mv part-of-requires source-cell-requires sub-carry-row sub-carry-row-2 carry-row-requires same-length returns clear-requires same-length-2 returns-2)
+    (tie.spec sub-len adds-no-key-requires element-copy-out-mv part-of-requires source-cell-requires sub-carry-row sub-carry-row-2 carry-row-requires same-length returns clear-requires same-length-2 returns-2)

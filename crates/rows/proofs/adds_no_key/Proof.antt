@@ -1,11 +1,11 @@
--- `rows::adds_no_worth` meets its contract. Assumes nothing.
+-- `rows::adds_no_key` meets its contract. Assumes nothing.
 use mathlib.Core.Path.{_≡_}
 use Prim.Native.Nat.{ℕ}
 use native.Mathlib.Omega.{arith}
 use borrow.Author.Needs.{needs}
 use borrow.Author.Tests.{eqb-true}
-use Rattle.rows.proofs.adds_no_worth.Statement.{statement}
-use Rattle.rows.proofs.adds_no_worth.Tie as tie
+use Rattle.rows.proofs.adds_no_key.Statement.{statement}
+use Rattle.rows.proofs.adds_no_key.Tie as tie
 
 element-copy-out-mv : tie.Need-element-copy-out-mv
 element-copy-out-mv c = search needs
@@ -19,5 +19,5 @@ returns-2 c = λ t. let z : _≡_ {A = ℕ} 0 1 = cc in absurd (omega arith)
 returns-3 : tie.Need-returns-3
 returns-3 c = λ t. let z : _≡_ {A = ℕ} 0 1 = cc in absurd (omega arith)
 
-pub adds-no-worth-spec : {M : Type 1} → statement M
-adds-no-worth-spec = tie.close (tie.spec element-copy-out-mv returns returns-2 returns-3)
+pub adds-no-key-spec : {M : Type 1} → statement M
+adds-no-key-spec = tie.close (tie.spec element-copy-out-mv returns returns-2 returns-3)
