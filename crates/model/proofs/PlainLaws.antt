@@ -7,19 +7,18 @@ use Prim.Native.Nat.{ℕ, zero, suc, _+_, _*_}
 use native.Mathlib.Omega.{arith}
 use lib.Dec.{T, leb, eqb, ltb, le→leb}
 use borrow.Author.Tests.{le-ltb}
-use Rattle.model.specs.declared.Finding.the-variants.{Passed}
 use Rattle.model.specs.Lists.{Every, upto}
 use Rattle.model.specs.Frames.{field, lineOf, afterLine}
-use Rattle.model.specs.Refusals.{Result, done, first, andThen}
-use Rattle.model.specs.Book.{noPower, Settings, Problem, slotCount, loadCount, problem, standingPairs, powerAt, standingPower, settings, lineRule, headerRules, loadRules, endRules, readLoads, readBook}
+use Rattle.model.specs.Refusals.{done}
+use Rattle.model.specs.Book.{noPower, Settings, Problem, slotCount, loadCount, standingPairs, powerAt, standingPower, settings, readLoads}
 use Rattle.model.specs.Choice.{powerIn, sumIn, plus, square, apparentSquared, firstSetting}
 use Rattle.model.specs.Grid.{Slot, slotsOf, keepsLimits}
 use Rattle.model.specs.Calls.{plannerResult}
 use Rattle.model.specs.Answers.{answerOf}
 use Rattle.model.specs.Demand.{Past12}
 use Rattle.model.proofs.ListLaws.{each, every-image, every-getD}
-use Rattle.model.proofs.RefusalLaws.{done-same, checked-done, then-done}
 use Rattle.model.proofs.ChoiceLaws.{plus-none}
+use Rattle.model.proofs.ValidLaws.{LoadsRead, loads-read, loads-none, book-read}
 use Rattle.model.proofs.SheetGivenLaws.{standing-planned}
 
 -- the next `left` lines are of kind `02`
@@ -40,17 +39,10 @@ still-line t line e =
     ∙ ap (λ b. cond b (powerAt line (4 + 8 * s)) noPower) (le-ltb s 0 (omega arith))))
 
 still-loads : (t left number : ℕ) (bytes : List ℕ) (loads : List Settings) → readLoads t left number bytes ≡ done loads → Plain left bytes → Every Still loads
-unfolding readLoads
-still-loads t zero number bytes loads e p =
-    subst (Every Still) (done-same [] loads (checked-done number (first (endRules bytes)) (done []) loads e .1)) tt
+still-loads t zero number bytes loads e p = subst (Every Still) (loads-none t number bytes loads e) tt
 still-loads t (suc left) number bytes loads e p =
-    let rest : Result (List Settings) = readLoads t left (suc number) (afterLine bytes) in
-    let more : List Settings → Result (List Settings) = λ ls. done (settings t (lineOf bytes) ∷ ls) in
-    let c : (first (lineRule bytes ∷ loadRules t (lineOf bytes)) ≡ Passed) × (andThen rest more ≡ done loads)
-    = checked-done number (first (lineRule bytes ∷ loadRules t (lineOf bytes))) (andThen rest more) loads e in
-    let d : (ls : List Settings) × (rest ≡ done ls) × (more ls ≡ done loads) = then-done rest more loads (c .1) in
-    subst (Every Still) (done-same (settings t (lineOf bytes) ∷ d .0) loads (d .2))
-    (still-line t (lineOf bytes) (p .0), still-loads t left (suc number) (afterLine bytes) (d .0) (d .1) (p .1))
+    let r : LoadsRead t left number bytes loads = loads-read t left number bytes loads e in
+    subst (Every Still) (r .same) (still-line t (lineOf bytes) (p .0), still-loads t left (suc number) (afterLine bytes) (r .others) (r .rest) (p .1))
 
 still-sum : (loads : List Settings) → Every Still loads → (slot : ℕ) → sumIn slot (map firstSetting loads) ≡ noPower
 still-sum [] h slot = refl
@@ -66,14 +58,7 @@ still-keeps loads h (s ∷ slots) =
 -- WITHOUT `06` LINES there is a sheet wherever none of 1 to 12 applies
 pub plain-planned : (book : List ℕ) (words room : ℕ) (b : Problem) → Plain (loadCount (lineOf book)) (afterLine book) → Past12 book words room b
     → answerOf (plannerResult book words room) .number ≡ 0
-unfolding readBook
 plain-planned book words room b p h =
-    let line : List ℕ = lineOf book in
-    let rest : Result (List Settings) = readLoads (slotCount line) (loadCount line) 2 (afterLine book) in
-    let whole : List Settings → Result Problem = λ ls. done (problem line ls) in
-    let d : (ls : List Settings) × (rest ≡ done ls) × (whole ls ≡ done b)
-    = then-done rest whole b (checked-done 1 (first (lineRule book ∷ headerRules line)) (andThen rest whole) b (h .reads) .1) in
     let still : Every Still (b .loads)
-    = subst (λ (x : Problem). Every Still (x .loads)) (done-same (problem line (d .0)) b (d .2))
-    (still-loads (slotCount line) (loadCount line) 2 (afterLine book) (d .0) (d .1) p) in
+    = still-loads (slotCount (lineOf book)) (loadCount (lineOf book)) 2 (afterLine book) (b .loads) (book-read book b (h .reads) .loads) p in
     standing-planned book words room b h (still-keeps (b .loads) still (slotsOf b))

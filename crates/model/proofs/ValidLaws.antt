@@ -105,26 +105,47 @@ good-more n t line loads rules g =
       small = (small-settings t line, g .small);
     }
 
-pub loads-valid : (t left number : ℕ) (bytes : List ℕ) (loads : List Settings) → readLoads t left number bytes ≡ done loads → ValidLoads left t loads
+-- how the loads that were read came from the lines: none of the rules applies to the first, and the others are read from what is after it
+pub record LoadsRead (t left number : ℕ) (bytes : List ℕ) (loads : List Settings) : Type 0 where
+  pub rules : NoneApplies (loadRules t (lineOf bytes))
+  pub others : List Settings
+  pub rest : readLoads t left (suc number) (afterLine bytes) ≡ done others
+  pub same : settings t (lineOf bytes) ∷ others ≡ loads
+
+pub loads-read : (t left number : ℕ) (bytes : List ℕ) (loads : List Settings) → readLoads t (suc left) number bytes ≡ done loads
+    → LoadsRead t left number bytes loads
 unfolding readLoads
-loads-valid t zero number bytes loads e =
-    subst (ValidLoads 0 t) (done-same [] loads (checked-done number (first (endRules bytes)) (done []) loads e .1)) (good-none t)
-loads-valid t (suc left) number bytes loads e =
+loads-read t left number bytes loads e =
     let rest : Result (List Settings) = readLoads t left (suc number) (afterLine bytes) in
     let more : List Settings → Result (List Settings) = λ ls. done (settings t (lineOf bytes) ∷ ls) in
     let c : (first (lineRule bytes ∷ loadRules t (lineOf bytes)) ≡ Passed) × (andThen rest more ≡ done loads)
     = checked-done number (first (lineRule bytes ∷ loadRules t (lineOf bytes))) (andThen rest more) loads e in
     let d : (ls : List Settings) × (rest ≡ done ls) × (more ls ≡ done loads) = then-done rest more loads (c .1) in
-    subst (ValidLoads (suc left) t) (done-same (settings t (lineOf bytes) ∷ d .0) loads (d .2))
-    (good-more left t (lineOf bytes) (d .0) (first-passed (lineRule bytes ∷ loadRules t (lineOf bytes)) (c .0) .1)
-    (loads-valid t left (suc number) (afterLine bytes) (d .0) (d .1)))
+    record {
+      rules = first-passed (lineRule bytes ∷ loadRules t (lineOf bytes)) (c .0) .1;
+      others = d .0;
+      rest = d .1;
+      same = done-same (settings t (lineOf bytes) ∷ d .0) loads (d .2);
+    }
+
+-- where no line is left there is no load
+pub loads-none : (t number : ℕ) (bytes : List ℕ) (loads : List Settings) → readLoads t 0 number bytes ≡ done loads → [] ≡ loads
+unfolding readLoads
+loads-none t number bytes loads e = done-same [] loads (checked-done number (first (endRules bytes)) (done []) loads e .1)
+
+pub loads-valid : (t left number : ℕ) (bytes : List ℕ) (loads : List Settings) → readLoads t left number bytes ≡ done loads → ValidLoads left t loads
+loads-valid t zero number bytes loads e = subst (ValidLoads 0 t) (loads-none t number bytes loads e) (good-none t)
+loads-valid t (suc left) number bytes loads e =
+    let r : LoadsRead t left number bytes loads = loads-read t left number bytes loads e in
+    subst (ValidLoads (suc left) t) (r .same)
+    (good-more left t (lineOf bytes) (r .others) (r .rules) (loads-valid t left (suc number) (afterLine bytes) (r .others) (r .rest)))
 
 -- ---- the book
 
 -- how a book that was read came from its bytes
 pub record BookRead (bytes : List ℕ) (b : Problem) : Type 0 where
   pub rules : NoneApplies (headerRules (lineOf bytes))
-  pub good : ValidLoads (loadCount (lineOf bytes)) (slotCount (lineOf bytes)) (b .loads)
+  pub loads : readLoads (slotCount (lineOf bytes)) (loadCount (lineOf bytes)) 2 (afterLine bytes) ≡ done (b .loads)
   pub same : problem (lineOf bytes) (b .loads) ≡ b
 
 pub book-read : (bytes : List ℕ) (b : Problem) → readBook bytes ≡ done b → BookRead bytes b
@@ -139,14 +160,17 @@ book-read bytes b e =
     subst (BookRead bytes) (done-same (problem line (d .0)) b (d .2))
     (record {
       rules = first-passed (lineRule bytes ∷ headerRules line) (c .0) .1;
-      good = loads-valid (slotCount line) (loadCount line) 2 (afterLine bytes) (d .0) (d .1);
+      loads = d .1;
       same = refl;
     })
 
 module _ (bytes : List ℕ) (b : Problem) (e : readBook bytes ≡ done b) where
+  good : ValidLoads (loadCount (lineOf bytes)) (slotCount (lineOf bytes)) (b .loads)
+  good = loads-valid (slotCount (lineOf bytes)) (loadCount (lineOf bytes)) 2 (afterLine bytes) (b .loads) (book-read bytes b e .loads)
+
   -- N and T are the header's
   pub loads-count : length (b .loads) ≡ loadCount (lineOf bytes)
-  loads-count = book-read bytes b e .good .count
+  loads-count = good .count
 
   pub slots-count : length (b .limits) ≡ slotCount (lineOf bytes)
   slots-count =
@@ -167,7 +191,7 @@ module _ (bytes : List ℕ) (b : Problem) (e : readBook bytes ≡ done b) where
       let fine : finenessIn line ≡ b .fineness = ap (λ (x : Problem). x .fineness) (r .same) in
       record {
         loads = subst (λ k. ValidLoads k (length (b .limits)) (b .loads)) (sym loads-count)
-            (subst (λ k. ValidLoads (loadCount line) k (b .loads)) (sym slots-count) (r .good));
+            (subst (λ k. ValidLoads (loadCount line) k (b .loads)) (sym slots-count) good);
         slots-some = omega (arith, slots-count, s .0);
         slots-few = omega (arith, slots-count, s .1);
         loads-some = omega (arith, loads-count, n .0);
