@@ -1,8 +1,8 @@
 -- What is found on a sheet: its numbers, and its choice.
 -- Assumes nothing.
-use Prim.Native.Nat.{ℕ, zero, suc, _+_, _*_, _≤_, _<_}
+use Prim.Native.Nat.{ℕ, zero, suc, _+_, _-_, _*_, _≤_, _<_}
 use mathlib.Core.Path.{_≡_, refl, sym, ap, subst, _∙_}
-use mathlib.Core.Bool.{Bool, true, false, cond, not, false≢true}
+use mathlib.Core.Bool.{Bool, true, false, not, false≢true}
 use mathlib.Core.Logic.{_⊎_, inl, inr}
 use mathlib.Core.List.{List, [], _∷_}
 use mathlib.Core.Option.{Option, none, some}
@@ -11,7 +11,6 @@ use native.Mathlib.Omega.{arith}
 use lib.Dec.{eqb}
 use lib.ListN.{length, getD, set, length-set}
 use lib.Seq.{getD-set-same, getD-set-other}
-use borrow.Author.Tests.{ne-eqb}
 use Rattle.model.specs.declared.Book.{Book}
 use Rattle.model.specs.declared.Finding.{Finding}
 use Rattle.model.specs.declared.Finding.the-variants.{Passed, Refused}
@@ -22,14 +21,15 @@ use Rattle.model.specs.Bounds.{mostLoads}
 use Rattle.model.specs.Frames.{field}
 use Rattle.model.specs.Refusals.{Result, refused, done, first, checked, andThen}
 use Rattle.model.specs.Book.{Setting, Settings, Problem}
-use Rattle.model.specs.Choice.{Choice, settingNumbered}
+use Rattle.model.specs.Choice.{Choice, settingNumbered, leastOf}
 use Rattle.model.specs.Sheet.{sheetBytes, sheetLength}
 use Rattle.model.specs.SheetReader.{foreignRules, consBoth, choiceFrom, trialsOn, ifBelongs, sheetChoice}
-use Rattle.model.specs.Valid.{Numbered, Labelled}
-use Rattle.model.specs.Values.{Held, Picked, loadValue, choiceOf, problemOf}
+use Rattle.model.specs.Valid.{Labelled}
+use Rattle.model.specs.Values.{Held, Offers, Picked, loadValue, choiceOf, problemOf}
 use Rattle.model.proofs.ListLaws.{same-eq, same-refl}
 use Rattle.model.proofs.IntegerLaws.{split}
 use Rattle.model.proofs.RefusalLaws.{first-here, first-last}
+use Rattle.model.proofs.NumberLaws.{none-found}
 use Rattle.model.proofs.PlanLaws.{chosen-length}
 use Rattle.model.proofs.SheetLaws.{sheet-length, choice-is, choice-back}
 use Rattle.model.proofs.HeldLaws.{held-valid, held-count, held-few, held-load}
@@ -40,34 +40,31 @@ use Rattle.chosen.specs.Chosen.{PicksOn, Belongs, ChoiceOn}
 
 -- ---- the numbers on a sheet
 
--- no setting has a number past the last
-past-last : (i : ℕ) (vs : Settings) (c : ℕ) → Numbered i vs → i + length vs ≤ c → settingNumbered c vs ≡ none
-past-last i [] c h l = refl
-past-last i (v ∷ vs) c h l =
-    ap (λ t. cond t (some v) (settingNumbered c vs)) (ne-eqb (v .number) c (λ e. omega (arith, e, h .0)))
-    ∙ past-last (suc i) vs c (h .1) (omega arith)
+-- a number below a load's least, or past its last
+abbrev Outside : Settings → ℕ → Type 0
+Outside vs c = (c < leastOf vs) ⊎ (leastOf vs + length vs ≤ c)
 
 both-none : (x : Option Setting) → consBoth x none ≡ none
 both-none none = refl
 both-none (some v) = refl
 
 choice-none : (sheet : List ℕ) (i : ℕ) (loads : List Settings) → Every Labelled loads → (k : ℕ) → k < length loads
-    → length (getD loads k []) ≤ field sheet (18 + 2 * (i + k)) 2 → choiceFrom sheet i loads ≡ none
+    → Outside (getD loads k []) (field sheet (18 + 2 * (i + k)) 2) → choiceFrom sheet i loads ≡ none
 choice-none sheet i [] h k l o = absurd (omega arith)
 choice-none sheet i (vs ∷ loads) h zero l o =
     ap (λ x. consBoth x (choiceFrom sheet (suc i) loads))
-    (past-last 0 vs (field sheet (18 + 2 * i) 2) (h .0 .numbered) (omega (arith, ap (λ j. field sheet (18 + 2 * j) 2) (add-zero i))))
+    (none-found (leastOf vs) vs (field sheet (18 + 2 * i) 2) (h .0 .numbered) (subst (λ j. Outside vs (field sheet (18 + 2 * j) 2)) (add-zero i) o))
 choice-none sheet i (vs ∷ loads) h (suc k) l o =
     let across : 18 + 2 * (i + suc k) ≡ 18 + 2 * (suc i + k) = omega arith in
     ap (consBoth (settingNumbered (field sheet (18 + 2 * i) 2) vs))
-    (choice-none sheet (suc i) loads (h .1) k (le-of-suc-le-suc l) (omega (arith, ap (λ j. field sheet j 2) across)))
+    (choice-none sheet (suc i) loads (h .1) k (le-of-suc-le-suc l) (subst (λ j. Outside (getD loads k []) (field sheet j 2)) across o))
     ∙ both-none (settingNumbered (field sheet (18 + 2 * i) 2) vs)
 
 -- the first k numbers of the sheet stand in the array, and each is one of its load's
 pub record ReadUpto (sheet : List ℕ) (b : Problem) (k : ℕ) (picks : List ℕ) : Type 0 where
   pub room : length picks ≡ mostLoads
   pub same : (j : ℕ) → j < k → getD picks j 0 ≡ field sheet (18 + 2 * j) 2
-  pub inside : (j : ℕ) → j < k → getD picks j 0 < length (getD (b .loads) j [])
+  pub inside : (j : ℕ) → j < k → Offers (getD (b .loads) j []) (getD picks j 0)
 
 pub read-start : (sheet : List ℕ) (b : Problem) (picks : List ℕ) → length picks ≡ mostLoads → ReadUpto sheet b 0 picks
 read-start sheet b picks e = record { room = e; same = λ j l. absurd (omega arith); inside = λ j l. absurd (omega arith) }
@@ -76,19 +73,28 @@ module _ (book : Book) (h : Held book) (sheet picks : List ℕ) where
   abbrev book-of : Problem
   book-of = problemOf book
 
-  settings-at : (k : ℕ) (d : Load) → k < book .count → getD (book .loads) k d .settings ≡ length (getD (book-of .loads) k [])
-  unfolding loadValue
-  settings-at k d l = ap (λ (x : Load). x .settings) (held-load book h k d (omega (arith, held-few book h)))
+  module _ (k : ℕ) (d : Load) (l : k < book .count) where
+    load-at : getD (book .loads) k d ≡ loadValue (getD (book-of .loads) k [])
+    load-at = held-load book h k d (omega (arith, held-few book h))
+
+    least-at : getD (book .loads) k d .least ≡ leastOf (getD (book-of .loads) k [])
+    unfolding loadValue
+    least-at = ap (λ (x : Load). x .least) load-at
+
+    settings-at : getD (book .loads) k d .settings ≡ length (getD (book-of .loads) k [])
+    unfolding loadValue
+    settings-at = ap (λ (x : Load). x .settings) load-at
 
   -- one load more
   pub read-more : (k : ℕ) (d : Load) (c : ℕ) → k < book .count → ReadUpto sheet book-of k picks → c ≡ field sheet (18 + 2 * k) 2
-      → c < getD (book .loads) k d .settings → ReadUpto sheet book-of (k + 1) (set picks k c)
-  read-more k d c l r e m =
+      → getD (book .loads) k d .least ≤ c → c - getD (book .loads) k d .least < getD (book .loads) k d .settings
+      → ReadUpto sheet book-of (k + 1) (set picks k c)
+  read-more k d c l r e from m =
       record {
         room = length-set picks k c ∙ r .room;
         same = λ j g. cases (λ x. x ≡ field sheet (18 + 2 * j) 2) j g (λ i. r .same j i) (λ q. e ∙ ap (λ i. field sheet (18 + 2 * i) 2) (sym q));
-        inside = λ j g. cases (λ x. x < length (getD (book-of .loads) j [])) j g (λ i. r .inside j i)
-            (λ q. omega (arith, settings-at k d l, ap (λ i. length (getD (book-of .loads) i [])) q));
+        inside = λ j g. cases (Offers (getD (book-of .loads) j [])) j g (λ i. r .inside j i)
+            (λ q. subst (λ i. Offers (getD (book-of .loads) i []) c) (sym q) (omega (arith, least-at k d l), omega (arith, least-at k d l, settings-at k d l)));
       }
     where
       here : k < length picks
@@ -103,17 +109,25 @@ module _ (book : Book) (h : Held book) (sheet picks : List ℕ) where
               let q : j ≡ k = omega arith in
               subst P (sym (ap (λ i. getD (set picks k c) i 0) q ∙ getD-set-same picks k c 0 here)) (last q)
 
-  -- a number past its load's last
-  pub read-lost : (k : ℕ) (d : Load) (c : ℕ) → k < book .count → c ≡ field sheet (18 + 2 * k) 2 → getD (book .loads) k d .settings ≤ c
+  -- a number that is not one of its load's
+  read-lost : (k c : ℕ) → k < book .count → c ≡ field sheet (18 + 2 * k) 2 → Outside (getD (book-of .loads) k []) c
       → PicksOn sheet book-of false picks
-  read-lost k d c l e m =
+  read-lost k c l e m =
       record {
         picked = λ q. absurd (false≢true q);
         found = λ q. absurd (false≢true q);
         lost = λ q.
             choice-none sheet 0 (book-of .loads) (held-valid book h .loads .labels) k (omega (arith, held-count book h))
-            (omega (arith, settings-at k d l, ap (λ i. field sheet (18 + 2 * i) 2) (zero-add k)));
+            (subst (Outside (getD (book-of .loads) k [])) (e ∙ ap (λ i. field sheet (18 + 2 * i) 2) (sym (zero-add k))) m);
       }
+
+  pub read-below : (k : ℕ) (d : Load) (c : ℕ) → k < book .count → c ≡ field sheet (18 + 2 * k) 2 → c < getD (book .loads) k d .least
+      → PicksOn sheet book-of false picks
+  read-below k d c l e m = read-lost k c l e (inl (omega (arith, least-at k d l)))
+
+  pub read-past : (k : ℕ) (d : Load) (c : ℕ) → k < book .count → c ≡ field sheet (18 + 2 * k) 2
+      → getD (book .loads) k d .least ≤ c → getD (book .loads) k d .settings ≤ c - getD (book .loads) k d .least → PicksOn sheet book-of false picks
+  read-past k d c l e from m = read-lost k c l e (inr (omega (arith, least-at k d l, settings-at k d l)))
 
   -- each is one of its load's
   pub read-found : (k : ℕ) → k ≡ book .count → ReadUpto sheet book-of k picks → PicksOn sheet book-of true picks

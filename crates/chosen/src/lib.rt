@@ -30,7 +30,10 @@ fn picks_on(sheet: &[u8], book: Book) -> Picks
     while k < book.count {
         let load = book.loads[k];
         let c = hex::number(sheet, 18 + 2 * k, 2) as usize;
-        if load.settings <= c {
+        if c < load.least {
+            return Picks { ok: false, picks };
+        }
+        if load.settings <= c - load.least {
             return Picks { ok: false, picks };
         }
         picks[k] = c;

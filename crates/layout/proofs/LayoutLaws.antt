@@ -11,6 +11,7 @@ use Rattle.model.specs.Lists.{Every}
 use Rattle.model.specs.Book.{Settings}
 use Rattle.model.specs.Grid.{Slot, slotsOf}
 use Rattle.model.specs.Trials.{cells}
+use Rattle.model.specs.Choice.{leastOf}
 use Rattle.model.specs.Valid.{Numbered, Labelled, SettingSmall, SettingBelow}
 use Rattle.model.specs.Values.{Held, problemOf}
 use Rattle.model.specs.Bounds.{mostCells}
@@ -33,7 +34,7 @@ setting-below i (v ∷ vs) n l s = ((omega (arith, s .0 .worth), omega (arith, n
 
 loads-below : (loads : List Settings) → Every Labelled loads → Every (Every SettingSmall) loads → Every (Every (SettingBelow 65535)) loads
 loads-below [] a s = tt
-loads-below (vs ∷ loads) a s = (setting-below 0 vs (a .0 .numbered) (omega (arith, a .0 .few)) (s .0), loads-below loads (a .1) (s .1))
+loads-below (vs ∷ loads) a s = (setting-below (leastOf vs) vs (a .0 .numbered) (a .0 .few) (s .0), loads-below loads (a .1) (s .1))
 
 tops-in : (steps tops widths limits : List ℕ) (t : ℕ) (slots : List Slot) → SlotsIn 0 steps tops widths limits t slots → TopsAre tops t slots
 tops-in steps tops widths limits t [] h = tt

@@ -4,25 +4,27 @@ use mathlib.Core.Path.{_≡_, refl, sym, ap, ap₂, _∙_}
 use mathlib.Core.Bool.{Bool, true, false, cond, _||_}
 use mathlib.Core.Logic.{_⊎_, inl, inr}
 use mathlib.Core.List.{List, [], _∷_, map}
-use Prim.Native.Nat.{ℕ, zero, suc, _+_, _-_, _*_, _%_, _<_, _≤_}
+use mathlib.Core.Option.{some}
+use Prim.Native.Nat.{ℕ, suc, _+_, _-_, _*_, _%_, _<_, _≤_}
 use native.Mathlib.Nat.{mul-le-mul-right, suc-mul, le-trans}
 use native.Mathlib.Numerals.{add-one}
 use native.Mathlib.Omega.{arith}
 use lib.Dec.{eqb}
 use lib.IntN.{ℤ, pos, negsuc, natAbs, subℕ}
 use lib.ListN.{length, getD, List·getD-eq-default}
-use borrow.Author.Tests.{lt-ltb, le-ltb, eqb-true, not-false}
+use borrow.Author.Tests.{lt-ltb, le-ltb, ne-eqb, eqb-true, not-false}
 use Rattle.model.specs.declared.Finding.the-variants.{Passed}
 use Rattle.model.specs.Lists.{upto, any, Every}
 use Rattle.model.specs.Frames.{field, signed}
 use Rattle.model.specs.Refusals.{first}
-use Rattle.model.specs.Book.{Power, noPower, Setting, Settings, optionCount, standingPairs, optionStart, powerAt, optionAt, optionOn, standingPower, settings, reactiveExceeds, someExceeds, loadRules}
-use Rattle.model.specs.Choice.{powerIn, noSetting}
-use Rattle.model.specs.Values.{raised, settingOf}
+use Rattle.model.specs.Book.{Power, noPower, Setting, Settings, optionCount, standingPairs, optionStart, powerAt, optionAt, optionOn, options, standingPower, standing, settings, reactiveExceeds, someExceeds, loadRules}
+use Rattle.model.specs.Choice.{settingNumbered, noSetting, settingOr, settingOf, powerIn}
+use Rattle.model.specs.Values.{raised}
 use Rattle.model.proofs.IntegerLaws.{split, sub-neg}
 use Rattle.model.proofs.RefusalLaws.{first-passed}
-use Rattle.model.proofs.UptoLaws.{length-upto, getD-upto, upto-is}
-use Rattle.model.proofs.ValidLaws.{sized-settings}
+use Rattle.model.proofs.UptoLaws.{length-upto, getD-upto, from-is, upto-is}
+use Rattle.model.proofs.NumberLaws.{none-found, numbered-of}
+use Rattle.model.proofs.ValidLaws.{options-numbered, sized-settings}
 use Rattle.hex.proofs.RangeLaws.{in-range}
 use Rattle.loadline.specs.LoadLine.{LoadLine}
 
@@ -85,18 +87,34 @@ line-holds t pairs o line h = rw (h .long) (omega arith)
 pub length-settings : (t : ℕ) (line : List ℕ) → length (settings t line) ≡ optionCount line + 1
 length-settings t line = ap suc (length-upto (optionOn t line) (optionCount line)) ∙ (omega arith)
 
+-- only standing has number 0
+after-standing : (t c : ℕ) (line : List ℕ) → 1 ≤ c → settingNumbered c (settings t line) ≡ settingNumbered c (options t line)
+after-standing t c line p =
+    ap (λ x. cond x (some (standing t line)) (settingNumbered c (options t line))) (ne-eqb 0 c (λ e. omega arith))
+
 pub setting-option : (t c : ℕ) (line : List ℕ) → 1 ≤ c → c ≤ optionCount line
     → settingOf (settings t line) c ≡ optionAt t line c (optionStart t (standingPairs t line) (c - 1))
-setting-option t zero line p q = absurd (omega arith)
-setting-option t (suc j) line p q =
-    getD-upto (optionOn t line) (optionCount line) j noSetting (omega arith)
-    ∙ ap (λ i. optionAt t line (suc j) (optionStart t (standingPairs t line) i)) less
-  where
-    less : j ≡ suc j - 1
-    less = omega arith
+unfolding settingOf
+setting-option t c line p q =
+    let e : c ≡ 1 + (c - 1) = omega arith in
+    let n : suc (c - 1) ≡ c = omega arith in
+    ap settingOr (after-standing t c line p)
+    ∙ ap (settingOf (options t line)) e
+    ∙ numbered-of 1 (options t line) (options-numbered t line) (c - 1) (omega (arith, length-upto (optionOn t line) (optionCount line)))
+    ∙ getD-upto (optionOn t line) (optionCount line) (c - 1) noSetting (omega arith)
+    ∙ ap (λ i. optionAt t line i (optionStart t (standingPairs t line) (c - 1))) n
 
 pub setting-past : (t c : ℕ) (line : List ℕ) → optionCount line < c → settingOf (settings t line) c ≡ noSetting
-setting-past t c line h = List·getD-eq-default (settings t line) noSetting {n = c} (omega (arith, length-settings t line))
+unfolding settingOf
+setting-past t c line h =
+    ap settingOr (after-standing t c line (omega arith)
+    ∙ none-found 1 (options t line) c (options-numbered t line) (inr (omega (arith, length-upto (optionOn t line) (optionCount line)))))
+
+pub worth-standing : (t c : ℕ) (line : List ℕ) → c < 1 → settingOf (settings t line) c .worth ≡ 0
+unfolding settingOf
+worth-standing t c line h =
+    let z : c ≡ 0 = omega arith in
+    ap (λ j. settingOr (settingNumbered j (settings t line)) .worth) z
 
 -- past the pairs that a line carries standing draws nothing
 pub standing-none : (t s : ℕ) (line : List ℕ) → standingPairs t line ≤ s → standingPower t line s ≡ noPower
@@ -110,6 +128,7 @@ standing-at t s line h = ap (λ b. cond b (powerAt line (4 + 8 * s)) noPower) (l
 -- the power of setting c in slot s: none past the last option and past the last slot
 module _ (t c s : ℕ) (line : List ℕ) where
   pub power-standing : c < 1 → powerIn s (settingOf (settings t line) c) ≡ standingPower t line s
+  unfolding settingOf
   power-standing h =
       let z : c ≡ 0 = omega arith in
       ap (λ j. powerIn s (settingOf (settings t line) j)) z ∙ go (split s t)
@@ -154,7 +173,7 @@ pub exceeds-is : (t : ℕ) (line : List ℕ) → someExceeds (settings t line) �
 unfolding someExceeds
 exceeds-is t line =
     exceeds-each t (settings t line) (sized-settings t line)
-    ∙ ap (any (exceedsIn t)) (sym (upto-is (settingOf (settings t line)) (settings t line) noSetting (λ k l. refl)))
+    ∙ ap (any (exceedsIn t)) (sym (from-is (settingOf (settings t line)) 0 (settings t line) noSetting (numbered-of 0 (settings t line) (refl, options-numbered t line))))
     ∙ ap (λ n. any (exceedsIn t) (map (settingOf (settings t line)) (upto n))) (length-settings t line)
 
 -- ---- Q plus 32,768

@@ -10,8 +10,8 @@ ghost use lib.ListN.{length};
 ghost use Rattle.model.specs.Lists.{upto};
 ghost use Rattle.model.specs.Refusals.{first};
 ghost use Rattle.model.specs.Book.{noPower, standingPairs, optionStart, powerAt, standingPower, settings, reactiveExceeds, someExceeds, loadRules};
-ghost use Rattle.model.specs.Choice.{powerIn};
-ghost use Rattle.model.specs.Values.{settingOf, loadValue};
+ghost use Rattle.model.specs.Choice.{settingOf, powerIn};
+ghost use Rattle.model.specs.Values.{loadValue};
 ghost use Rattle.model.specs.Bounds.{mostSlots, mostOptions, mostSettings};
 ghost use Rattle.loadline.specs.LoadLine.{LoadLine, powerValue};
 
@@ -187,6 +187,7 @@ pub fn load_of(line: &[u8], slots: usize, count: usize) -> Load
     }
     let settings = count + 1;
     Load {
+        least: 0,
         settings,
         worths,
         actives,

@@ -20,12 +20,12 @@ use Rattle.model.specs.Frames.{isDigit, digitValue, digit, valueFrom, fi
 use Rattle.model.specs.Refusals.{Result, refused, done, numberOf, first}
 use Rattle.model.specs.Answers.{Output, answerOf}
 use Rattle.model.specs.Book.{Problem, standingPairs, optionStart, standingPower, headerRules, someExceeds, loadRules, readLoads, readBook}
-use Rattle.model.specs.Choice.{Choice, square}
+use Rattle.model.specs.Choice.{Choice, settingOf, square}
 use Rattle.model.specs.Grid.{stepFor, slotsOf, floorDiv, bestAdmitted, plan}
 use Rattle.model.specs.Trials.{cells, sameℤ, reachedCount, trialsUpto, trials}
 use Rattle.model.specs.Sheet.{lf, numbersOf, firstLine, sumsAndLimits, slotLine, slotLines, sheetBytes}
 use Rattle.model.specs.Calls.{sizeRules, fittingBook, planSheet, plannerResult}
-use Rattle.model.specs.Quick.{optionOne, sizeOf, takeIfFits, quickChoice, quickRules, quickSheet, quickResult}
+use Rattle.model.specs.Quick.{sizeOf, takeIfFits, quickChoice, quickRules, quickSheet, quickResult}
 use Rattle.model.specs.Program.{refusalLine, printed, programOutput}
 use Rattle.model.specs.Demand.{apparentSquaredIn, closerBound}
 use Rattle.model.specs.Rounding.{floorBySum}
@@ -366,7 +366,7 @@ unfolding holds planRows programOutput refusalLine plannerResult planSheet fitti
     readBook readLoads headerRules loadRules someExceeds standingPairs optionStart standingPower first
     isDigit digitValue digit valueFrom field digits signed unsigned lineLength
     slotsOf plan bestAdmitted cells trials reachedCount sheetBytes firstLine slotLines sumsAndLimits slotLine numbersOf
-    quickResult quickSheet quickRules quickChoice takeIfFits sizeOf optionOne
+    quickResult quickSheet quickRules quickChoice takeIfFits sizeOf settingOf
 plan-rows-hold = refl
 
 standing-rows-hold : all holds standingRows ≡ true
@@ -374,7 +374,7 @@ unfolding holds standingRows programOutput refusalLine plannerResult planSheet f
     readBook readLoads headerRules loadRules someExceeds standingPairs optionStart standingPower first
     isDigit digitValue digit valueFrom field digits signed unsigned lineLength
     slotsOf plan bestAdmitted cells trials reachedCount sheetBytes firstLine slotLines sumsAndLimits slotLine numbersOf
-    quickResult quickSheet quickRules quickChoice takeIfFits sizeOf optionOne
+    quickResult quickSheet quickRules quickChoice takeIfFits sizeOf settingOf
     sheetChoice chargeResult sheetCharge choiceCharge chargeOf rounded accepted shown runningLoads numberAndLevel millLine millResult supplyView supplyResult
     orderResult sheetsOrder loadsOrder starting runningMask andNot startCount wrongNames someBlocked left ready startNext startedAfter startOrder ones onesIn
 standing-rows-hold = refl

@@ -10,7 +10,7 @@ use Rattle.model.specs.Lists.{Every}
 use Rattle.model.specs.Book.{Setting, Settings}
 use Rattle.model.specs.Choice.{Choice, IsChoice, codeOf, settingNumbered, decode}
 use Rattle.model.specs.Valid.{Labelled}
-use Rattle.model.proofs.SheetLaws.{number-small, found}
+use Rattle.model.proofs.NumberLaws.{member-found, number-small}
 
 pub code-back : (loads : List Settings) (c : Choice) → Every Labelled loads → IsChoice loads c
     → decode (length loads) (codeOf c) ≡ map (λ (v : Setting). v .number) c
@@ -37,9 +37,9 @@ code-same (vs ∷ loads) (u ∷ c) [] h m n e = absurd n
 code-same (vs ∷ loads) (u ∷ c) (v ∷ d) h m n e =
     ap₂ {C = List Setting} (λ x r. x ∷ r)
     (Option·some-injective u v
-    (sym (found 0 vs u (h .0 .numbered) (m .0))
+    (sym (member-found vs (h .0) u (m .0))
     ∙ ap (λ k. settingNumbered k vs) (low (u .number) (v .number) (codeOf c) (codeOf d) (number-small vs u (h .0) (m .0)) (number-small vs v (h .0) (n .0)) e)
-    ∙ found 0 vs v (h .0 .numbered) (n .0)))
+    ∙ member-found vs (h .0) v (n .0)))
     (code-same loads c d (h .1) (m .1) (n .1) (high (u .number) (v .number) (codeOf c) (codeOf d) (number-small vs u (h .0) (m .0)) (number-small vs v (h .0) (n .0)) e))
   where
     low : (a b x y : ℕ) → a < 4 → b < 4 → a + 4 * x ≡ b + 4 * y → a ≡ b

@@ -30,7 +30,8 @@ use Rattle.model.proofs.AdmissionLaws.{square-abs, abs-offset, of-admit
 use Rattle.model.proofs.PlanLaws.{plan-sound, plan-worth, chosen-length}
 use Rattle.model.proofs.ValidLaws.{book-valid}
 use Rattle.model.proofs.SheetGivenLaws.{past-only, past-result}
-use Rattle.model.proofs.SheetLaws.{worth-on, numbers-on, numbers-small}
+use Rattle.model.proofs.NumberLaws.{numbers-small}
+use Rattle.model.proofs.SheetLaws.{worth-on, numbers-on}
 use Rattle.model.proofs.Squares.{sq-mono}
 use Rattle.model.proofs.Overload as Overload
 

@@ -10,9 +10,9 @@ use Rattle.model.specs.declared.Load.{Load}
 use Rattle.model.specs.Lists.{Every, upto}
 use Rattle.model.specs.Bounds.{mostLoads}
 use Rattle.model.specs.Book.{Settings, Problem, Power}
-use Rattle.model.specs.Choice.{powerIn, noSetting}
+use Rattle.model.specs.Choice.{settingOf, powerIn}
 use Rattle.model.specs.Valid.{ValidBook, SettingSmall}
-use Rattle.model.specs.Values.{Held, loadValue, bookValue, problemOf, settingOf, powerOf, raised}
+use Rattle.model.specs.Values.{Held, loadValue, bookValue, problemOf, powerOf, raised}
 use Rattle.model.proofs.ListLaws.{every-at, every-getD}
 use Rattle.model.proofs.UptoLaws.{getD-upto}
 use Rattle.model.proofs.ValueLaws.{held-kept, power-at}
@@ -54,12 +54,6 @@ module _ (v : Book) (h : Held v) where
       ap (λ (x : Book). getD (x .loads) k d) held-is ∙ getD-upto (λ i. loadValue (getD (problemOf v .loads) i [])) mostLoads k d l
 
 -- ---- settings
-
-no-setting-small : SettingSmall noSetting
-no-setting-small = record { worth = omega arith; active = λ s. omega arith; reactive = λ s. omega arith }
-
-pub setting-small : (vs : Settings) → Every SettingSmall vs → (c : ℕ) → SettingSmall (settingOf vs c)
-setting-small vs h c = every-getD SettingSmall vs noSetting no-setting-small h c
 
 pub loads-small : (b : Problem) → ValidBook b → (k : ℕ) → Every SettingSmall (getD (b .loads) k [])
 loads-small b valid k = every-getD (Every SettingSmall) (b .loads) [] tt (valid .loads .small) k

@@ -6,6 +6,7 @@ pub mod FrameLaws
 pub mod RefusalLaws
 pub mod AnswerLaws
 pub mod ChoiceLaws
+pub mod NumberLaws
 pub mod KeyLaws
 pub mod Squares
 pub mod AdmissionLaws

@@ -19,7 +19,7 @@ use Rattle.model.specs.Demand.{Past12}
 use Rattle.model.proofs.ListLaws.{each, every-image, every-getD}
 use Rattle.model.proofs.ChoiceLaws.{plus-none}
 use Rattle.model.proofs.ValidLaws.{LoadsRead, loads-read, loads-none, book-read}
-use Rattle.model.proofs.SheetGivenLaws.{standing-planned}
+use Rattle.model.proofs.SheetGivenLaws.{firsts-planned}
 
 -- the next `left` lines are of kind `02`
 abbrev pub Plain : ℕ → List ℕ → Type 0
@@ -61,4 +61,4 @@ pub plain-planned : (book : List ℕ) (words room : ℕ) (b : Problem) → Plain
 plain-planned book words room b p h =
     let still : Every Still (b .loads)
     = still-loads (slotCount (lineOf book)) (loadCount (lineOf book)) 2 (afterLine book) (b .loads) (book-read book b (h .reads) .loads) p in
-    standing-planned book words room b h (still-keeps (b .loads) still (slotsOf b))
+    firsts-planned book words room b h (still-keeps (b .loads) still (slotsOf b))

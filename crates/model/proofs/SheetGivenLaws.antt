@@ -24,14 +24,14 @@ use Rattle.model.specs.Grid.{slotsOf, keepsLimits, plan}
 use Rattle.model.specs.Trials.{cells, neededWords, trials}
 use Rattle.model.specs.Sheet.{sheetLength}
 use Rattle.model.specs.Calls.{sizeRules, fitting, fittingBook, planned, planSheet, plannerResult}
-use Rattle.model.specs.Quick.{allStanding, quickSheet, quickResult}
+use Rattle.model.specs.Quick.{firstSettings, quickSheet, quickResult}
 use Rattle.model.specs.Valid.{ValidBook}
 use Rattle.model.specs.Demand.{Past12, SomeAdmitted, Answered}
 use Rattle.model.specs.Answers.{answerOf}
 use Rattle.model.proofs.RefusalLaws.{number-some, NoneApplies, first-passed, first-none, first-most, RulesMost, NumberMost}
 use Rattle.model.proofs.AdmissionLaws.{slots-for, keeps-admitted, admitted-is}
 use Rattle.model.proofs.PlanLaws.{chosen-length, plan-is, plan-none}
-use Rattle.model.proofs.QuickLaws.{standing-chosen, quick-over}
+use Rattle.model.proofs.QuickLaws.{firsts-chosen, quick-over}
 use Rattle.model.proofs.ValidLaws.{book-valid, book-most}
 
 -- a number that refusals 1 to 12 do not have
@@ -151,18 +151,18 @@ none-keeps book words room e =
 -- ---- all standing
 
 -- where all standing keeps the limits there is a sheet, once none of 1 to 12 applies
-pub standing-planned : (book : List ℕ) (words room : ℕ) (b : Problem) → Past12 book words room b → T (keepsLimits (slotsOf b) (allStanding b))
+pub firsts-planned : (book : List ℕ) (words room : ℕ) (b : Problem) → Past12 book words room b → T (keepsLimits (slotsOf b) (firstSettings b))
     → answerOf (plannerResult book words room) .number ≡ 0
-standing-planned book words room b h k =
-    answered book words room .sheet b h (keeps-some b (allStanding b) (standing-chosen b (book-valid book b (h .reads))) k)
+firsts-planned book words room b h k =
+    answered book words room .sheet b h (keeps-some b (firstSettings b) (firsts-chosen b (book-valid book b (h .reads))) k)
 
 -- where no choice is admitted all standing breaks a limit
-standing-over : (b : Problem) → ValidBook b → (SomeAdmitted b → ⊥) → keepsLimits (slotsOf b) (allStanding b) ≡ false
-standing-over b valid n = go (keepsLimits (slotsOf b) (allStanding b)) refl
+firsts-over : (b : Problem) → ValidBook b → (SomeAdmitted b → ⊥) → keepsLimits (slotsOf b) (firstSettings b) ≡ false
+firsts-over b valid n = go (keepsLimits (slotsOf b) (firstSettings b)) refl
   where
-    go : (t : Bool) → keepsLimits (slotsOf b) (allStanding b) ≡ t → t ≡ false
+    go : (t : Bool) → keepsLimits (slotsOf b) (firstSettings b) ≡ t → t ≡ false
     go false e = refl
-    go true e = absurd (n (keeps-some b (allStanding b) (standing-chosen b valid) (subst T (sym e) tt)))
+    go true e = absurd (n (keeps-some b (firstSettings b) (firsts-chosen b valid) (subst T (sym e) tt)))
 
 -- WHERE THE PLANNER GIVES 17, the quick planner gives it too, with room for as many bytes
 pub quick-none : (book : List ℕ) (words room : ℕ) → answerOf (plannerResult book words room) .number ≡ 17 → answerOf (quickResult book room) .number ≡ 17
@@ -170,4 +170,4 @@ unfolding quickResult
 quick-none book words room e =
     let x = answered book words room .no-plan-only e in
     ap (λ r. answerOf (andThen r (quickSheet room)) .number) (x .1 .reads)
-    ∙ ap (λ r. answerOf r .number) (quick-over (x .0) room (x .1 .long) (standing-over (x .0) (book-valid book (x .0) (x .1 .reads)) (x .2)))
+    ∙ ap (λ r. answerOf r .number) (quick-over (x .0) room (x .1 .long) (firsts-over (x .0) (book-valid book (x .0) (x .1 .reads)) (x .2)))

@@ -1,32 +1,31 @@
 -- The sheet's length and fields, and the sheet reader: it accepts exactly the sheets that some choice and some trials below 2^32 give.
 -- Assumes nothing.
 use mathlib.Core.Path.{_≡_, refl, sym, ap, ap₂, _∙_, subst}
-use mathlib.Core.Bool.{Bool, true, false, cond, not}
-use mathlib.Core.Logic.{_⊎_, inl, inr}
+use mathlib.Core.Bool.{true, not}
 use mathlib.Core.List.{List, [], _∷_, _++_, append-assoc, append-nil}
 use mathlib.Core.Option.{Option, none, some, Option·none-ne-some, Option·some-injective}
-use Prim.Native.Nat.{ℕ, zero, suc, _+_, _*_, _^_, _<_, _≤_}
+use Prim.Native.Nat.{ℕ, zero, suc, _+_, _*_, _^_, _<_}
 use native.Mathlib.Nat.{add-zero, zero-add, le-of-suc-le-suc}
 use native.Mathlib.Omega.{arith}
 use lib.Dec.{eqb}
 use lib.ListN.{length, length-append, getD, drop}
 use lib.Seq.{drop-at, drop-drop}
-use borrow.Author.Tests.{eq-eqb, ne-eqb, not-false}
+use borrow.Author.Tests.{not-false}
 use Rattle.model.specs.declared.Refusal.the-variants.{ForeignSheet}
 use Rattle.model.specs.declared.Finding.the-variants.{Passed}
-use Rattle.model.specs.Lists.{Mem, Every, sameLists}
+use Rattle.model.specs.Lists.{Every, sameLists}
 use Rattle.model.specs.Frames.{digits, field}
 use Rattle.model.specs.Refusals.{Result, done, first, checked, andThen}
 use Rattle.model.specs.Book.{Setting, Settings, Problem, readBook}
 use Rattle.model.specs.Choice.{Choice, IsChoice, worthOf, codeOf, noSetting, settingNumbered}
 use Rattle.model.specs.Sheet.{lf, numbersOf, firstLine, SumsAndLimit, sumsAndLimit, sumsAndLimits, slotLine, slotLines, sheetBytes, sheetLength}
 use Rattle.model.specs.SheetReader.{foreignRules, SheetOf, SheetData, consBoth, choiceFrom, trialsOn, ifBelongs, sheetChoice, sheetData, readerResult}
-use Rattle.model.specs.Valid.{Numbered, Labelled}
+use Rattle.model.specs.Valid.{Labelled}
 use Rattle.model.proofs.ListLaws.{length-concat, same-eq, same-refl}
 use Rattle.model.proofs.UptoLaws.{length-upto}
 use Rattle.model.proofs.FrameLaws.{length-digits, field-back, field-below}
 use Rattle.model.proofs.RefusalLaws.{refused-done, then-done, done-same, checked-done, first-passed, first-none}
-use Rattle.model.proofs.ChoiceLaws.{choice-every}
+use Rattle.model.proofs.NumberLaws.{found-mem, member-found, numbers-small}
 use Rattle.model.proofs.ValidLaws.{book-valid}
 
 -- ---- the length
@@ -113,38 +112,6 @@ module _ (b : Problem) (c : Choice) (t : ℕ) (bytes past : List ℕ) (e : bytes
   pub numbers-on : Every (λ v. v .number < 4) c → (u : Setting) (k : ℕ) → k < length c → field bytes (18 + 2 * k) 2 ≡ getD c k u .number
   numbers-on h u k l = ap (λ j. field bytes (18 + 2 * j) 2) (sym (zero-add k)) ∙ numbers-at bytes rest 0 c u h at-numbers k l
 
--- ---- the setting with a number
-
-number-from : (i : ℕ) (vs : Settings) (v : Setting) → Numbered i vs → Mem v vs → (i ≤ v .number) × (v .number < i + length vs)
-number-from i [] v h m = absurd m
-number-from i (u ∷ vs) v h (inl e) = (omega (arith, h .0, ap (λ (x : Setting). x .number) e), omega (arith, h .0, ap (λ (x : Setting). x .number) e))
-number-from i (u ∷ vs) v h (inr m) =
-    let k : (suc i ≤ v .number) × (v .number < suc i + length vs) = number-from (suc i) vs v (h .1) m in
-    (omega (arith, k .0), omega (arith, k .1))
-
-pub number-small : (vs : Settings) (v : Setting) → Labelled vs → Mem v vs → v .number < 4
-number-small vs v h m = omega (arith, number-from 0 vs v (h .numbered) m .1)
-
-pub numbers-small : (loads : List Settings) (c : Choice) → Every Labelled loads → IsChoice loads c → Every (λ v. v .number < 4) c
-numbers-small loads c h m = choice-every Labelled (λ v. v .number < 4) number-small loads c h m
-
-pub found : (i : ℕ) (vs : Settings) (v : Setting) → Numbered i vs → Mem v vs → settingNumbered (v .number) vs ≡ some v
-found i [] v h m = absurd m
-found i (u ∷ vs) v h (inl e) =
-    ap (λ t. cond t (some u) (settingNumbered (v .number) vs)) (eq-eqb (u .number) (v .number) (ap (λ (x : Setting). x .number) (sym e)))
-    ∙ ap {B = Option Setting} some (sym e)
-found i (u ∷ vs) v h (inr m) =
-    ap (λ t. cond t (some u) (settingNumbered (v .number) vs)) (ne-eqb (u .number) (v .number) (λ e. omega (arith, e, h .0, number-from (suc i) vs v (h .1) m .0)))
-    ∙ found (suc i) vs v (h .1) m
-
-found-mem : (n : ℕ) (vs : Settings) (v : Setting) → settingNumbered n vs ≡ some v → Mem v vs
-found-mem n [] v e = absurd (Option·none-ne-some v e)
-found-mem n (u ∷ vs) v e = go (eqb (u .number) n) e (found-mem n vs v)
-  where
-    go : (t : Bool) → cond t (some u) (settingNumbered n vs) ≡ some v → (settingNumbered n vs ≡ some v → Mem v vs) → (v ≡ u) ⊎ Mem v vs
-    go true q rest = inl (sym (Option·some-injective u v q))
-    go false q rest = inr (rest q)
-
 -- ---- the choice on a sheet
 
 pub choice-is : (bytes : List ℕ) (k : ℕ) (loads : List Settings) (c : Choice) → choiceFrom bytes k loads ≡ some c → IsChoice loads c
@@ -167,7 +134,7 @@ choice-back bytes k (vs ∷ loads) [] m h e = absurd m
 choice-back bytes k (vs ∷ loads) (v ∷ c) m h e =
     ap₂ consBoth
     (ap (λ n. settingNumbered n vs) (ap (λ i. field bytes (18 + 2 * i) 2) (sym (add-zero k)) ∙ e 0 (omega arith))
-    ∙ found 0 vs v (h .0 .numbered) (m .0))
+    ∙ member-found vs (h .0) v (m .0))
     (choice-back bytes (suc k) loads c (m .1) (h .1)
     (λ j l. ap (λ i. field bytes i 2) (sym (two-on k j)) ∙ e (suc j) (omega arith)))
 

@@ -66,11 +66,14 @@ module _ {A : Type 0} (f : ℕ → A) where
   pub take-upto : (k n : ℕ) → k ≤ n → take k (map f (upto n)) ≡ map f (upto k)
   take-upto k n h = take-from 0 k n h
 
-  -- a list that agrees with f at each place
+  -- a list that agrees with f at each place, counted from i on
+  pub from-is : (i : ℕ) (xs : List A) (d : A) → ((k : ℕ) → k < length xs → f (i + k) ≡ getD xs k d) → map f (uptoFrom i (length xs)) ≡ xs
+  from-is i xs d h =
+      ext-getD d (map f (uptoFrom i (length xs))) xs (length-from i (length xs))
+      (λ k l. let inside : k < length xs = omega (arith, length-from i (length xs)) in getD-from i (length xs) k d inside ∙ h k inside)
+
   pub upto-is : (xs : List A) (d : A) → ((i : ℕ) → i < length xs → f i ≡ getD xs i d) → map f (upto (length xs)) ≡ xs
-  upto-is xs d h =
-      ext-getD d (map f (upto (length xs))) xs (length-upto (length xs))
-      (λ i l. let k : i < length xs = omega (arith, length-upto (length xs)) in getD-upto (length xs) i d k ∙ h i k)
+  upto-is xs d h = from-is 0 xs d (λ k l. ap f (zero-add k) ∙ h k l)
 
   map-last : (n : ℕ) → map f (upto (suc n)) ≡ map f (upto n) ++ (f n ∷ [])
   map-last n = ap (map f) (upto-last n) ∙ map-append f (upto n) (n ∷ [])

@@ -38,12 +38,16 @@ numbered-options : (f : ℕ → Setting) → ((j : ℕ) → f j .number ≡ suc 
 numbered-options f h i zero = tt
 numbered-options f h i (suc n) = (h i, numbered-options f h (suc i) n)
 
+pub options-numbered : (t : ℕ) (line : List ℕ) → Numbered 1 (options t line)
+options-numbered t line = numbered-options (optionOn t line) (λ j. refl) 0 (optionCount line)
+
 labelled-settings : (t : ℕ) (line : List ℕ) → within 1 3 (optionCount line) ≡ true → Labelled (settings t line)
 labelled-settings t line e =
     let n : (1 ≤ optionCount line) × (optionCount line ≤ 3) = within-is 1 3 (optionCount line) e in
     let l : length (options t line) ≡ optionCount line = length-upto (optionOn t line) (optionCount line) in
     record {
-      numbered = (refl, numbered-options (optionOn t line) (λ j. refl) 0 (optionCount line));
+      numbered = (refl, options-numbered t line);
+      least = omega arith;
       several = omega (arith, n .0);
       few = omega (arith, n .1);
     }

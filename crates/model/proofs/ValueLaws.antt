@@ -1,10 +1,9 @@
 -- The values of the declared types Load and Book hold all of a book that was read: it can be had back from them.
 -- Assumes nothing.
 use mathlib.Core.Path.{_≡_, refl, sym, ap, _∙_}
-use mathlib.Core.List.{List, [], _∷_, map, map-map}
+use mathlib.Core.List.{List, [], map, map-map}
 use mathlib.Core.Logic.{_⊎_, inl, inr}
-use Prim.Native.Nat.{ℕ, zero, suc, _+_, _-_, _*_, _/_, _%_, _<_, _≤_}
-use native.Mathlib.Nat.{zero-add, le-of-suc-le-suc}
+use Prim.Native.Nat.{ℕ, _+_, _-_, _*_, _/_, _%_, _<_, _≤_}
 use native.Mathlib.Omega.{arith}
 use lib.IntN.{ℤ, pos, negsuc, natAbs}
 use lib.ListN.{length, getD, take}
@@ -13,14 +12,15 @@ use Rattle.model.specs.declared.Book.{Book}
 use Rattle.model.specs.Lists.{upto, Every}
 use Rattle.model.specs.Refusals.{done}
 use Rattle.model.specs.Book.{Power, noPower, Settings, Problem, readBook}
-use Rattle.model.specs.Choice.{powerIn, noSetting}
-use Rattle.model.specs.Values.{Held, raised, lowered, settingOf, powerOf, loadValue, bookValue, settingIn, settingsIn, problemOf}
-use Rattle.model.specs.Valid.{Numbered, Labelled, SettingSmall, ValidBook}
+use Rattle.model.specs.Choice.{noSetting, settingOf, leastOf, powerIn}
+use Rattle.model.specs.Values.{Held, Offers, raised, lowered, powerOf, loadValue, bookValue, settingIn, settingsIn, problemOf}
+use Rattle.model.specs.Valid.{Labelled, SettingSmall, ValidBook}
 use Rattle.model.specs.Index.{up, down}
 use Rattle.model.specs.Bounds.{mostLoads}
 use Rattle.model.proofs.ListLaws.{every-at}
-use Rattle.model.proofs.UptoLaws.{suc-across, getD-upto, take-upto, upto-is}
+use Rattle.model.proofs.UptoLaws.{getD-upto, take-upto, from-is, upto-is}
 use Rattle.model.proofs.IntegerLaws.{split, sub-pos, sub-neg, abs-sub}
+use Rattle.model.proofs.NumberLaws.{at-place, offered-number, offered-few, every-offered, setting-small}
 use Rattle.model.proofs.ValidLaws.{book-valid}
 
 pub raised-back : (q : ℤ) → natAbs q ≤ 32768 → lowered (raised q) ≡ q
@@ -50,11 +50,6 @@ lowered-back n = go (split n 32768)
 pub lowered-small : (n : ℕ) → n ≤ 65536 → natAbs (lowered n) ≤ 32768
 lowered-small n h = omega (arith, abs-sub n 32768)
 
-pub numbered-at : (i : ℕ) (vs : Settings) → Numbered i vs → (k : ℕ) → k < length vs → i + k ≡ getD vs k noSetting .number
-numbered-at i [] h k l = absurd (omega arith)
-numbered-at i (v ∷ vs) h zero l = omega (arith, h .0)
-numbered-at i (v ∷ vs) h (suc k) l = suc-across i k ∙ numbered-at (suc i) vs (h .1) k (le-of-suc-le-suc l)
-
 -- place 4 c + s is setting c in slot s
 pub power-at : (vs : Settings) (c s : ℕ) → s < 4 → powerOf vs (4 * c + s) ≡ powerIn s (settingOf vs c)
 unfolding powerOf
@@ -68,25 +63,25 @@ abbrev heldPower : Load → ℕ → ℕ → Power
 heldPower l c s = record { p = getD (l .actives) (4 * c + s) 0; q = lowered (getD (l .reactives) (4 * c + s) 0) }
 
 module _ (t : ℕ) (vs : Settings) (four : t ≤ 4) (labels : Labelled vs) (powers : Every (λ v. length (v .powers) ≡ t) vs) (small : Every SettingSmall vs) where
-  power-kept : (c s : ℕ) → c < length vs → s < t → heldPower (loadValue vs) c s ≡ powerIn s (settingOf vs c)
+  power-kept : (c s : ℕ) → Offers vs c → s < t → heldPower (loadValue vs) c s ≡ powerIn s (settingOf vs c)
   unfolding loadValue
   power-kept c s h k =
-      let place : 4 * c + s < 16 = omega (arith, labels .few) in
+      let place : 4 * c + s < 16 = omega (arith, offered-few vs labels c h) in
       let at : powerOf vs (4 * c + s) ≡ powerIn s (settingOf vs c) = power-at vs c s (omega arith) in
       let p-at : getD (map (λ i. powerOf vs i .p) (upto 16)) (4 * c + s) 0 ≡ powerIn s (settingOf vs c) .p
       = getD-upto (λ i. powerOf vs i .p) 16 (4 * c + s) 0 place ∙ ap (λ (x : Power). x .p) at in
       let q-at : lowered (getD (map (λ i. raised (powerOf vs i .q)) (upto 16)) (4 * c + s) 0) ≡ powerIn s (settingOf vs c) .q
       = ap lowered (getD-upto (λ i. raised (powerOf vs i .q)) 16 (4 * c + s) 0 place ∙ ap (λ (x : Power). raised (x .q)) at)
-      ∙ raised-back (powerIn s (settingOf vs c) .q) (every-at SettingSmall vs noSetting small c h .reactive s) in
+      ∙ raised-back (powerIn s (settingOf vs c) .q) (setting-small vs small c .reactive s) in
       λ i. record { p = p-at i; q = q-at i }
 
-  setting-kept : (c : ℕ) → c < length vs → settingIn t (loadValue vs) c ≡ settingOf vs c
+  setting-kept : (c : ℕ) → Offers vs c → settingIn t (loadValue vs) c ≡ settingOf vs c
   unfolding loadValue
   setting-kept c h =
-      let number-is : c ≡ settingOf vs c .number = sym (zero-add c) ∙ numbered-at 0 vs (labels .numbered) c h in
+      let number-is : c ≡ settingOf vs c .number = sym (offered-number vs labels c h) in
       let worth-is : getD (map (λ i. settingOf vs i .worth) (upto 4)) c 0 ≡ settingOf vs c .worth
-      = getD-upto (λ i. settingOf vs i .worth) 4 c 0 (omega (arith, labels .few)) in
-      let sized : length (settingOf vs c .powers) ≡ t = every-at (λ v. length (v .powers) ≡ t) vs noSetting powers c h in
+      = getD-upto (λ i. settingOf vs i .worth) 4 c 0 (offered-few vs labels c h) in
+      let sized : length (settingOf vs c .powers) ≡ t = every-offered (λ v. length (v .powers) ≡ t) vs labels powers c h in
       let powers-are : settingIn t (loadValue vs) c .powers ≡ settingOf vs c .powers
       = ap (λ n. settingIn n (loadValue vs) c .powers) (sym sized)
       ∙ upto-is (heldPower (loadValue vs) c) (settingOf vs c .powers) noPower (λ s k. power-kept c s h (omega arith)) in
@@ -95,7 +90,9 @@ module _ (t : ℕ) (vs : Settings) (four : t ≤ 4) (labels : Labelled vs) (powe
   -- the settings of a load, had back from its value
   pub value-kept : settingsIn t (loadValue vs) ≡ vs
   unfolding loadValue
-  value-kept = upto-is (settingIn t (loadValue vs)) vs noSetting setting-kept
+  value-kept =
+      from-is (settingIn t (loadValue vs)) (leastOf vs) vs noSetting
+      (λ k l. setting-kept (leastOf vs + k) (omega arith, omega arith) ∙ at-place vs labels k l)
 
 -- a valid book, had back from its value
 pub valid-kept : (b : Problem) → ValidBook b → problemOf (bookValue b) ≡ b

@@ -54,6 +54,14 @@ settingNumbered n (v ∷ vs) = cond (eqb (v .number) n) (some v) (settingNumbere
 abbrev pub noSetting : Setting
 noSetting = record { number = 0; worth = 0; powers = [] }
 
+abbrev pub settingOr : Option Setting → Setting
+settingOr none = noSetting
+settingOr (some v) = v
+
+-- setting c of a load, which is the one with that number, wherever it stands in the list
+unfoldable pub settingOf : Settings → ℕ → Setting
+settingOf vs c = settingOr (settingNumbered c vs)
+
 -- for document 02 (M-101, M-103): load k's number c, its level where it runs; there is no load 0
 abbrev pub levelOn : Choice → ℕ → ℕ
 levelOn c zero = 0
@@ -67,6 +75,10 @@ runningOn c k = not (eqb (levelOn c k) 0)
 abbrev pub firstSetting : Settings → Setting
 firstSetting [] = noSetting
 firstSetting (v ∷ vs) = v
+
+-- the least number that a load's settings have, as they go by ascending number
+abbrev pub leastOf : Settings → ℕ
+leastOf vs = firstSetting vs .number
 
 abbrev pub plus : Power → Power → Power
 plus x y = record { p = x .p + y .p; q = x .q +ℤ y .q }

@@ -1,5 +1,5 @@
 -- A valid book: what is known of every book that was read (proofs/ValidLaws, `book-valid`), for the planners to cite.
-use Prim.Native.Nat.{ℕ, suc, _*_, _^_, _<_, _≤_}
+use Prim.Native.Nat.{ℕ, suc, _+_, _*_, _^_, _<_, _≤_}
 use mathlib.Core.Path.{_≡_}
 use mathlib.Core.List.{List, [], _∷_}
 use lib.IntN.{natAbs}
@@ -7,7 +7,7 @@ use lib.ListN.{length}
 use Rattle.model.specs.Lists.{Every}
 use Rattle.model.specs.Bounds.{mostSlots, mostLoads, mostFineness, mostOptions, mostSettings}
 use Rattle.model.specs.Book.{Setting, Settings, Problem}
-use Rattle.model.specs.Choice.{powerIn}
+use Rattle.model.specs.Choice.{leastOf, powerIn}
 use Rattle.model.specs.Grid.{Slot}
 
 -- |Q| ≤ r P in every slot; document 01 has "|Q| ≤ P", which is r = 1
@@ -19,11 +19,12 @@ abbrev pub Numbered : ℕ → Settings → Type 0
 Numbered i [] = Unit {0}
 Numbered i (v ∷ vs) = (v .number ≡ i) × Numbered (suc i) vs
 
--- standing has number 0, and 1 to 3 options follow
+-- a load's numbers go from its least, which is 0 or 1, up to o, 1 to 3
 pub record Labelled (vs : Settings) : Type 0 where
-  pub numbered : Numbered 0 vs
-  pub several : 1 < length vs
-  pub few : length vs ≤ mostSettings
+  pub numbered : Numbered (leastOf vs) vs
+  pub least : leastOf vs ≤ 1
+  pub several : 1 < leastOf vs + length vs
+  pub few : leastOf vs + length vs ≤ mostSettings
 
 -- worth and P are below 2^16, and |Q| is at most 2^15
 pub record SettingSmall (v : Setting) : Type 0 where

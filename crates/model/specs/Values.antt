@@ -1,5 +1,5 @@
 -- What the values of the declared types Load, Book and Reading hold (src/lib.rt).
-use Prim.Native.Nat.{ℕ, suc, _+_, _-_, _*_, _/_, _%_, _<_}
+use Prim.Native.Nat.{ℕ, suc, _+_, _-_, _*_, _/_, _%_, _<_, _≤_}
 use mathlib.Core.Path.{_≡_}
 use mathlib.Core.List.{List, [], map}
 use lib.IntN.{ℤ, pos, negsuc, subℕ}
@@ -7,11 +7,11 @@ use lib.ListN.{length, getD, take, replicate}
 use Rattle.model.specs.declared.Book.{Book}
 use Rattle.model.specs.declared.Load.{Load}
 use Rattle.model.specs.declared.Reading.{Reading}
-use Rattle.model.specs.Lists.{upto}
+use Rattle.model.specs.Lists.{uptoFrom, upto}
 use Rattle.model.specs.Bounds.{mostSlots, mostLoads, mostSettings, mostPowers}
 use Rattle.model.specs.Refusals.{Result, refused, done}
 use Rattle.model.specs.Book.{Power, Setting, Settings, Problem}
-use Rattle.model.specs.Choice.{Choice, powerIn, noSetting}
+use Rattle.model.specs.Choice.{Choice, settingOf, leastOf, powerIn}
 use Rattle.model.specs.Answers.{bytesOnly, refusalAnswer, answerOf}
 use Rattle.model.specs.Valid.{ValidBook}
 
@@ -29,18 +29,15 @@ unfoldable pub raisedBy : ℕ → ℤ → ℕ
 raisedBy n (pos k) = k + 32768 * n
 raisedBy n (negsuc k) = 32768 * n - suc k
 
--- setting c of a load
-abbrev pub settingOf : Settings → ℕ → Setting
-settingOf vs c = getD vs c noSetting
-
 -- the power at place 4 c + s of a load's arrays: of setting c in slot s
 unfoldable pub powerOf : Settings → ℕ → Power
 powerOf vs k = powerIn (k % mostSlots) (settingOf vs (k / mostSlots))
 
--- the value that holds a load's settings; past the last setting and slot stand no worth and no power
+-- the value that holds a load's settings; where it has no setting of that number, and past the last slot, stand no worth and no power
 unfoldable pub loadValue : Settings → Load
 loadValue vs =
     record {
+      least = leastOf vs;
       settings = length vs;
       worths = map (λ c. settingOf vs c .worth) (upto mostSettings);
       actives = map (λ k. powerOf vs k .p) (upto mostPowers);
@@ -79,9 +76,13 @@ pub record Held (v : Book) : Type 0 where
 unfoldable pub choiceOf : Problem → List ℕ → Choice
 choiceOf b picks = map (λ k. settingOf (getD (b .loads) k []) (getD picks k 0)) (upto (length (b .loads)))
 
+-- c is the number of one of a load's settings, as these go from its least on
+abbrev pub Offers : Settings → ℕ → Type 0
+Offers vs c = (leastOf vs ≤ c) × (c < leastOf vs + length vs)
+
 -- each is the number of a setting of its load
 abbrev pub Picked : Problem → List ℕ → Type 0
-Picked b picks = (k : ℕ) → k < length (b .loads) → getD picks k 0 < length (getD (b .loads) k [])
+Picked b picks = (k : ℕ) → k < length (b .loads) → Offers (getD (b .loads) k []) (getD picks k 0)
 
 -- ---- the settings and the book that a value holds: nothing of a book that was read is lost (proofs/ValueLaws, `book-kept`)
 
@@ -95,7 +96,7 @@ settingIn t l c =
     }
 
 abbrev pub settingsIn : ℕ → Load → Settings
-settingsIn t l = map (settingIn t l) (upto (l .settings))
+settingsIn t l = map (settingIn t l) (uptoFrom (l .least) (l .settings))
 
 unfoldable pub problemOf : Book → Problem
 problemOf v =

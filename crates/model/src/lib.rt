@@ -65,9 +65,10 @@ pub struct OrderAnswer {
     pub stops: u64,
 }
 
-// A load: standing is its setting 0, its options are the settings after that. Setting c has worths[c] and, in slot s,
-// the active power actives[4 c + s] and the reactive power reactives[4 c + s] - 32,768.
+// A load: its settings have the numbers from `least` on; standing is setting 0, the options are the settings from 1 on. Setting c has
+// worths[c] and, in slot s, the active power actives[4 c + s] and the reactive power reactives[4 c + s] - 32,768.
 pub struct Load {
+    pub least: usize,
     pub settings: usize,
     pub worths: [u64; Load::SETTINGS],
     pub actives: [u64; Load::POWERS],
@@ -100,6 +101,7 @@ impl Load {
         ensures { λ r. ⌜ r ≡ loadValue [] ⌝ }
     {
         Load {
+            least: 0,
             settings: 0,
             worths: [0; Load::SETTINGS],
             actives: [0; Load::POWERS],

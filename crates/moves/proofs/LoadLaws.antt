@@ -3,7 +3,7 @@
 use Prim.Native.Nat.{ℕ, _+_, _*_, _^_, _<_, _≤_}
 use mathlib.Core.Path.{_≡_, sym, ap, _∙_, subst}
 use mathlib.Core.List.{List, []}
-use native.Mathlib.Nat.{zero-add, pow-succ', pow-le-pow-right, mul-comm}
+use native.Mathlib.Nat.{pow-succ', pow-le-pow-right, mul-comm}
 use native.Mathlib.Numerals.{add-one}
 use native.Mathlib.Omega.{arith}
 use lib.ListN.{length, getD}
@@ -12,31 +12,33 @@ use Rattle.model.specs.declared.Load.{Load}
 use Rattle.model.specs.Lists.{Every}
 use Rattle.model.specs.Grid.{Slot}
 use Rattle.model.specs.Valid.{Labelled, SettingSmall}
-use Rattle.model.specs.Values.{Held, settingOf, problemOf}
-use Rattle.model.specs.Choice.{noSetting}
+use Rattle.model.specs.Values.{Held, problemOf}
+use Rattle.model.specs.Choice.{noSetting, settingOf, leastOf}
 use Rattle.model.specs.Bounds.{mostLoads}
 use Rattle.model.proofs.ListLaws.{every-at}
-use Rattle.model.proofs.ValueLaws.{numbered-at}
+use Rattle.model.proofs.NumberLaws.{numbered-at, at-place}
 use Rattle.model.proofs.HeldLaws.{held-valid, held-count, held-few, held-load}
 use Rattle.stretch.specs.declared.SettingMove.{SettingMove}
 use Rattle.stretch.specs.Stretch.{noMove}
 use Rattle.moves.specs.Moves.{MoveIs, LoadIs, LoadHeld}
-use Rattle.moves.proofs.MoveLaws.{load-count}
+use Rattle.moves.proofs.MoveLaws.{load-count, load-least}
 
 -- all settings passed
 pub load-all : (x : Load) (h : LoadHeld x) (slots : List Slot) (k : ℕ) (moves : List SettingMove)
-    → ((i : ℕ) → i < x .settings → MoveIs 0 slots k (settingOf (h .settings) i) (getD moves i noMove))
+    → ((i : ℕ) → i < x .settings → MoveIs 0 slots k (settingOf (h .settings) (x .least + i)) (getD moves i noMove))
     → LoadIs 0 slots k (h .settings) (record { count = x .settings; moves = moves })
 load-all x h slots k moves f =
     record {
       count-is = load-count x h;
-      count-fits = h .labels .few;
+      count-fits = omega (arith, h .labels .few);
       ascending = λ m n l j. omega (arith, number m (omega arith), number n j);
-      each = λ n l. f n (omega (arith, load-count x h));
+      each = λ n l. subst (λ v. MoveIs 0 slots k v (getD moves n noMove))
+          (ap (λ i. settingOf (h .settings) (i + n)) (load-least x h) ∙ at-place (h .settings) (h .labels) n l)
+          (f n (omega (arith, load-count x h)));
     }
   where
-    number : (i : ℕ) → i < length (h .settings) → i ≡ getD (h .settings) i noSetting .number
-    number i l = sym (zero-add i) ∙ numbered-at 0 (h .settings) (h .labels .numbered) i l
+    number : (i : ℕ) → i < length (h .settings) → leastOf (h .settings) + i ≡ getD (h .settings) i noSetting .number
+    number i l = numbered-at (leastOf (h .settings)) (h .settings) (h .labels .numbered) i l
 
 -- the settings of load k + 1 of a book's value
 unfoldable pub load-held : (v : Book) (h : Held v) (k : ℕ) (d : Load) → k < v .count → LoadHeld (getD (v .loads) k d)

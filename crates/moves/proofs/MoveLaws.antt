@@ -10,20 +10,21 @@ use lib.ListN.{length, getD, set, drop, length-set, drop-of-length-le}
 use lib.Seq.{drop-cons}
 use Rattle.model.specs.declared.Load.{Load}
 use Rattle.model.specs.Book.{Setting}
-use Rattle.model.specs.Choice.{powerIn}
+use Rattle.model.specs.Choice.{settingOf, leastOf, powerIn}
 use Rattle.model.specs.Grid.{Slot, floorDiv}
 use Rattle.model.specs.Trials.{gridTop}
 use Rattle.model.specs.Valid.{SettingSmall}
-use Rattle.model.specs.Values.{raised, lowered, settingOf, loadValue}
+use Rattle.model.specs.Values.{raised, lowered, loadValue}
 use Rattle.model.specs.Cells.{settingGrid, settingGrids}
 use Rattle.model.specs.Index.{widthOf, rowIndex, rowCount, columnCount, cellCount, columnUp, columnDown}
 use Rattle.model.specs.Bounds.{mostCells}
 use Rattle.model.proofs.UptoLaws.{getD-upto}
-use Rattle.model.proofs.ValueLaws.{raised-back, raised-small, raised-parts, numbered-at}
+use Rattle.model.proofs.ValueLaws.{raised-back, raised-small, raised-parts}
 use Rattle.model.proofs.RoundingLaws.{floor-small}
 use Rattle.model.specs.Index as index
 use Rattle.model.proofs.RowLaws.{digit-plus}
-use Rattle.model.proofs.HeldLaws.{setting-small, load-active, load-reactive}
+use Rattle.model.proofs.NumberLaws.{setting-small, offered-number}
+use Rattle.model.proofs.HeldLaws.{load-active, load-reactive}
 use Rattle.slots.specs.declared.Slots.{Slots}
 use Rattle.slots.specs.Slots.{noSlot, SlotAt}
 use Rattle.slots.proofs.ArrayLaws.{set-down}
@@ -150,8 +151,12 @@ module _ (x : Load) (h : LoadHeld x) where
   unfolding loadValue
   load-count = ap (λ (y : Load). y .settings) (h .is)
 
-  pub load-few : x .settings ≤ 4
-  load-few = omega (arith, load-count, h .labels .few)
+  pub load-least : x .least ≡ leastOf (h .settings)
+  unfolding loadValue
+  load-least = ap (λ (y : Load). y .least) (h .is)
+
+  pub load-few : x .least + x .settings ≤ 4
+  load-few = omega (arith, load-least, load-count, h .labels .few)
 
   module _ (c : ℕ) (place : c < 4) where
     load-worth : getD (x .worths) c 0 ≡ settingOf (h .settings) c .worth
@@ -187,12 +192,12 @@ module _ (x : Load) (h : LoadHeld x) where
           }
 
   -- all slots passed
-  pub moved-all : (c unit k : ℕ) (slots : List Slot) (back up down : ℕ) (active : List ℕ) → c < x .settings → unit ≡ 4 ^ k → length slots ≤ 4
+  pub moved-all : (c unit k : ℕ) (slots : List Slot) (back up down : ℕ) (active : List ℕ) → x .least ≤ c → c < x .least + x .settings → unit ≡ 4 ^ k → length slots ≤ 4
       → cellCount 1 slots ≤ mostCells → Moved slots (settingOf (h .settings) c) 0 back up down active
       → MoveIs 0 slots k (settingOf (h .settings) c) (record { gain = getD (x .worths) c 0; digit = c * unit; back = back; up = up; down = down; active = active })
-  moved-all c unit k slots back up down active l e few fits m =
+  moved-all c unit k slots back up down active from l e few fits m =
       let v = settingOf (h .settings) c in
-      let number-is : c ≡ v .number = sym (zero-add c) ∙ numbered-at 0 (h .settings) (h .labels .numbered) c (omega (arith, load-count)) in
+      let number-is : c ≡ v .number = sym (offered-number (h .settings) (h .labels) c (omega (arith, load-least), omega (arith, load-least, load-count))) in
       record {
         gain-is = load-worth c (omega (arith, load-few));
         digit-is = ap₂ (λ i n. i * n) number-is e;

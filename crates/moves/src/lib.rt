@@ -6,10 +6,11 @@ use stretch::LoadMoves;
 use stretch::SettingMove;
 ghost use mathlib.Core.Path.{_≡_};
 ghost use mathlib.Core.List.{[]};
-ghost use Prim.Native.Nat.{ℕ, _^_, _<_, _≤_};
+ghost use Prim.Native.Nat.{ℕ, _+_, _^_, _<_, _≤_};
 ghost use lib.ListN.{getD};
 ghost use Rattle.model.specs.Grid.{floorDiv};
-ghost use Rattle.model.specs.Values.{raised, lowered, settingOf, Held, problemOf};
+ghost use Rattle.model.specs.Choice.{settingOf};
+ghost use Rattle.model.specs.Values.{raised, lowered, Held, problemOf};
 ghost use Rattle.model.specs.Rounding.{floorBySum};
 ghost use Rattle.slots.specs.Slots.{Laid};
 ghost use Rattle.moves.specs.Moves.{movesOf, MoveIs, LoadIs, LoadHeld};
@@ -28,7 +29,7 @@ fn grid_value(power: u64, step: u64) -> u64
 fn move_of(load: Load, c: usize, unit: u64, count: usize, slots: Slots) -> SettingMove
     requires { ⌜ LoadHeld load ⌝ }
     requires { ⌜ Laid slots count ⌝ }
-    requires { ⌜ (c < load .settings) × (unit ≤ 70368744177664) ⌝ }
+    requires { ⌜ (load .least ≤ c) × (c < load .least + load .settings) × (unit ≤ 70368744177664) ⌝ }
     ensures { λ r. ⌜ ((h : LoadHeld load) (l : Laid slots count) (k : ℕ) → unit ≡ 4 ^ k → MoveIs 0 (l .slots) k (settingOf (h .settings) c) r) ⌝ }
 {
     let mut active = [0usize; Book::SLOTS];
@@ -73,20 +74,21 @@ fn no_move() -> SettingMove {
     }
 }
 
-// What the settings of a load do.
+// What the settings of a load do, in their order, which is that of their numbers.
 fn moves_of(load: Load, unit: u64, count: usize, slots: Slots) -> LoadMoves
     requires { ⌜ LoadHeld load ⌝ }
     requires { ⌜ Laid slots count ⌝ }
     requires { ⌜ unit ≤ 70368744177664 ⌝ }
     ensures { λ r. ⌜ ((h : LoadHeld load) (l : Laid slots count) (k : ℕ) → unit ≡ 4 ^ k → LoadIs 0 (l .slots) k (h .settings) r) ⌝ }
 {
+    let least = load.least;
     let settings = load.settings;
     let still = no_move();
     let mut moves = [still; Load::SETTINGS];
-    let mut c: usize = 0;
-    while c < settings {
-        moves[c] = move_of(load, c, unit, count, slots);
-        c += 1;
+    let mut i: usize = 0;
+    while i < settings {
+        moves[i] = move_of(load, least + i, unit, count, slots);
+        i += 1;
     }
     LoadMoves {
         count: settings,

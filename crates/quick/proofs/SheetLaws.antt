@@ -13,10 +13,10 @@ use Rattle.model.specs.Book.{Problem}
 use Rattle.model.specs.Grid.{slotsOf, keepsLimits}
 use Rattle.model.specs.Answers.{Output}
 use Rattle.model.specs.Sheet.{sheetOf, sheetLength}
-use Rattle.model.specs.Quick.{allStanding, quickChoice, quickRules, quickSheet}
+use Rattle.model.specs.Quick.{firstSettings, quickChoice, quickRules, quickSheet}
 use Rattle.model.specs.Values.{choiceOf}
 use Rattle.model.proofs.RefusalLaws.{first-here, first-last}
-use Rattle.model.proofs.QuickLaws.{standing-left}
+use Rattle.model.proofs.QuickLaws.{firsts-left}
 use Rattle.quick.specs.Order.{Chosen}
 
 module _ (b : Problem) (room : ℕ) where
@@ -27,9 +27,9 @@ module _ (b : Problem) (room : ℕ) where
   unfolding quickSheet quickRules
   quick-short h = ap (λ f. checked 0 f due) (first-here BufferTooSmall _ (ltb room (sheetLength b)) (lt-ltb room (sheetLength b) h))
 
-  pub quick-done : (picks : List ℕ) → sheetLength b ≤ room → keepsLimits (slotsOf b) (allStanding b) ≡ true → Chosen b picks
+  pub quick-done : (picks : List ℕ) → sheetLength b ≤ room → keepsLimits (slotsOf b) (firstSettings b) ≡ true → Chosen b picks
       → done (sheetOf b (choiceOf b picks) (length (b .loads))) ≡ quickSheet room b
   unfolding quickSheet
   quick-done picks long e c =
       ap (λ x. done (sheetOf b x (length (b .loads)))) (c .choice)
-      ∙ sym (ap (λ f. checked 0 f due) (standing-left b room long ∙ first-last NoPlan _ (ap not e)))
+      ∙ sym (ap (λ f. checked 0 f due) (firsts-left b room long ∙ first-last NoPlan _ (ap not e)))

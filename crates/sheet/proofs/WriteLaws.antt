@@ -2,8 +2,7 @@
 -- Assumes nothing.
 use Prim.Native.Nat.{ℕ, _+_, _-_, _*_, _^_, _≤_, _<_}
 use mathlib.Core.Path.{_≡_, sym, ap, ap₂, _∙_}
-use mathlib.Core.List.{List, [], _++_}
-use native.Mathlib.Nat.{zero-add}
+use mathlib.Core.List.{List, _++_}
 use native.Mathlib.Omega.{arith}
 use lib.IntN.{subℕ}
 use lib.ListN.{length, getD, take, drop}
@@ -13,13 +12,11 @@ use Rattle.model.specs.Book.{Setting, Problem}
 use Rattle.model.specs.Choice.{Choice, IsChoice, worthOf, sumIn, noSetting}
 use Rattle.model.specs.Answers.{bufferAfter}
 use Rattle.model.specs.Sheet.{firstLine, sumsAndLimits, slotLines, sheetBytes, sheetLength, sheetOf}
-use Rattle.model.specs.Valid.{Labelled, ValidBook}
-use Rattle.model.specs.Values.{Held, Picked, settingOf, choiceOf, problemOf}
-use Rattle.model.proofs.ListLaws.{every-at}
+use Rattle.model.specs.Valid.{ValidBook}
+use Rattle.model.specs.Values.{Held, Picked, choiceOf, problemOf}
 use Rattle.model.proofs.UptoLaws.{getD-upto}
 use Rattle.model.proofs.PlanLaws.{chosen-length}
 use Rattle.model.proofs.SheetLaws.{length-first, length-slot-lines, sheet-length}
-use Rattle.model.proofs.ValueLaws.{numbered-at}
 use Rattle.model.proofs.RaisedLaws.{raised-less}
 use Rattle.model.proofs.SumLaws.{sum-small, choice-small}
 use Rattle.model.proofs.HeldLaws.{held-valid, held-count, held-slots, held-four, held-limit}
@@ -28,21 +25,17 @@ use Rattle.hex.proofs.WrittenLaws.{written-start, then-written}
 use Rattle.sums.specs.declared.Sums.{Sums}
 use Rattle.sums.specs.Sums.{sumsValue}
 use Rattle.sums.proofs.SumsLaws.{sums-active, sums-reactive, choice-sums}
-use Rattle.sums.proofs.PickLaws.{picked-choice}
+use Rattle.sums.proofs.PickLaws.{pickOf, picked-choice, pick-number}
 use Rattle.lines.specs.Lines.{firstBytes, slotsBytes}
 use Rattle.lines.proofs.LineLaws.{first-is, slots-are}
 
 -- ---- the sheet of a choice whose numbers are in an array
 
 module _ (b : Problem) (picks : List ℕ) (valid : ValidBook b) (picked : Picked b picks) where
-  -- a setting's number is its place
   pub number-at : (k : ℕ) → k < length (b .loads) → getD (choiceOf b picks) k noSetting .number ≡ getD picks k 0
   unfolding choiceOf
   number-at k l =
-      let vs = getD (b .loads) k [] in
-      ap (λ (v : Setting). v .number) (getD-upto (λ i. settingOf (getD (b .loads) i []) (getD picks i 0)) (length (b .loads)) k noSetting l)
-      ∙ sym (numbered-at 0 vs (every-at Labelled (b .loads) [] (valid .loads .labels) k l .numbered) (getD picks k 0) (picked k l))
-      ∙ zero-add (getD picks k 0)
+      ap (λ (v : Setting). v .number) (getD-upto (pickOf b picks) (length (b .loads)) k noSetting l) ∙ pick-number b picks valid picked k l
 
   pub choice-length : length (choiceOf b picks) ≡ length (b .loads)
   choice-length = chosen-length (b .loads) (choiceOf b picks) (picked-choice b picks valid picked)

@@ -11,18 +11,18 @@ use Rattle.model.specs.declared.Load.{Load}
 use Rattle.model.specs.declared.Book.{Book}
 use Rattle.model.specs.Lists.{Mem, Every, uptoFrom, upto}
 use Rattle.model.specs.Book.{Setting, Settings, Problem}
-use Rattle.model.specs.Choice.{Choice, IsChoice, worthOf, codeOf, noSetting}
+use Rattle.model.specs.Choice.{Choice, IsChoice, worthOf, codeOf, settingOf}
 use Rattle.model.specs.Valid.{Labelled, SettingSmall, ValidBook}
-use Rattle.model.specs.Values.{Held, problemOf, settingOf, loadValue, choiceOf, Picked, settingIn, settingsIn}
+use Rattle.model.specs.Values.{Held, problemOf, loadValue, choiceOf, Picked}
 use Rattle.model.specs.Bounds.{mostLoads}
 use Rattle.model.proofs.ListLaws.{every-imp, every-at, every-image}
 use Rattle.model.proofs.UptoLaws.{suc-across, upto-last, length-upto, getD-upto}
 use Rattle.model.proofs.ChoiceLaws.{snoc, worth-last, worth-most}
-use Rattle.model.proofs.ValueLaws.{value-kept}
-use Rattle.model.proofs.HeldLaws.{held-valid, held-count, held-few, held-load, setting-small, loads-small}
+use Rattle.model.proofs.NumberLaws.{setting-small, offered-mem, offered-number, offered-few}
+use Rattle.model.proofs.HeldLaws.{held-valid, held-count, held-few, held-load, loads-small}
 use Rattle.sums.specs.declared.Sums.{Sums}
 use Rattle.sums.specs.Sums.{sumsValue, added, CanAdd}
-use Rattle.sums.proofs.SumsLaws.{mem-at, added-last, can-add}
+use Rattle.sums.proofs.SumsLaws.{added-last, can-add}
 
 abbrev pub pickOf : Problem → List ℕ → ℕ → Setting
 pickOf b picks k = settingOf (getD (b .loads) k []) (getD picks k 0)
@@ -80,26 +80,16 @@ module _ (b : Problem) (picks : List ℕ) (valid : ValidBook b) (picked : Picked
   unfolding choiceOf
   picked-choice =
       choice-from (b .loads) (pickOf b picks) 0 (λ k l.
-      subst (λ j. Mem (pickOf b picks j) (getD (b .loads) k [])) (sym (zero-add k)) (mem-at (getD (b .loads) k []) (getD picks k 0) (picked k l)))
+      subst (λ j. Mem (pickOf b picks j) (getD (b .loads) k [])) (sym (zero-add k)) (offered-mem (getD (b .loads) k []) (load-labelled valid k l) (getD picks k 0) (picked k l)))
 
   pub picks-small : (k : ℕ) → Every SettingSmall (picksUpto b picks k)
   picks-small k = every-image SettingSmall (pickOf b picks) (upto k) (λ i. setting-small (getD (b .loads) i []) (loads-small b valid i) (getD picks i 0))
 
   pub pick-few : (k : ℕ) → k < length (b .loads) → getD picks k 0 < 4
-  pick-few k l = omega (arith, picked k l, load-labelled valid k l .few)
+  pick-few k l = offered-few (getD (b .loads) k []) (load-labelled valid k l) (getD picks k 0) (picked k l)
 
-  -- a setting's number is its place
-  pick-number : (k : ℕ) → k < length (b .loads) → pickOf b picks k .number ≡ getD picks k 0
-  unfolding loadValue
-  pick-number k l =
-      let vs = getD (b .loads) k [] in
-      let t = length (b .limits) in
-      let kept : settingsIn t (loadValue vs) ≡ vs
-      = value-kept t vs (valid .slots-few) (load-labelled valid k l)
-      (every-at (Every (λ v. length (v .powers) ≡ t)) (b .loads) [] (valid .loads .powers) k l)
-      (every-at (Every SettingSmall) (b .loads) [] (valid .loads .small) k l) in
-      ap (λ us. settingOf us (getD picks k 0) .number) (sym kept)
-      ∙ ap (λ (v : Setting). v .number) (getD-upto (settingIn t (loadValue vs)) (length vs) (getD picks k 0) noSetting (picked k l))
+  pub pick-number : (k : ℕ) → k < length (b .loads) → pickOf b picks k .number ≡ getD picks k 0
+  pick-number k l = offered-number (getD (b .loads) k []) (load-labelled valid k l) (getD picks k 0) (picked k l)
 
   -- ---- one load more
 

@@ -1,7 +1,6 @@
 -- The sums of a choice: their entries and bounds, and what adding and exchanging a setting make of them.
 -- Assumes nothing.
 use mathlib.Core.Path.{_≡_, refl, sym, ap, ap₂, _∙_}
-use mathlib.Core.Logic.{inl, inr}
 use mathlib.Core.List.{List, [], _∷_, map}
 use Prim.Native.Nat.{ℕ, zero, suc, _+_, _*_, _/_, _%_, _<_, _≤_}
 use native.Mathlib.Nat.{le-of-suc-le-suc}
@@ -11,9 +10,9 @@ use lib.ListN.{length, getD, set, length-append, length-set, getD-replicate}
 use Rattle.model.specs.Lists.{Mem, Every, upto}
 use Rattle.model.specs.Bounds.{mostLoads}
 use Rattle.model.specs.Book.{Power, Setting, Settings, Problem}
-use Rattle.model.specs.Choice.{Choice, IsChoice, plus, powerIn, sumIn, noSetting}
+use Rattle.model.specs.Choice.{Choice, IsChoice, noSetting, settingOf, leastOf, plus, powerIn, sumIn}
 use Rattle.model.specs.Valid.{Labelled, SettingSmall, ValidBook}
-use Rattle.model.specs.Values.{raisedBy, settingOf, loadValue}
+use Rattle.model.specs.Values.{raisedBy, loadValue}
 use Rattle.model.proofs.ListLaws.{every-at, every-set}
 use Rattle.model.proofs.UptoLaws.{getD-upto, upto-is}
 use Rattle.model.proofs.ChoiceLaws.{snoc, plus-comm, sum-last}
@@ -21,7 +20,8 @@ use Rattle.model.proofs.PlanLaws.{chosen-length}
 use Rattle.model.proofs.QuickLaws.{sum-set}
 use Rattle.model.proofs.RaisedLaws.{raised-one, raised-plus, raised-most}
 use Rattle.model.proofs.SumLaws.{PowerSmall, power-small, sum-small, choice-small, choice-few}
-use Rattle.model.proofs.HeldLaws.{setting-small, load-active, load-reactive, loads-small}
+use Rattle.model.proofs.NumberLaws.{setting-small, offers-one, offered-mem}
+use Rattle.model.proofs.HeldLaws.{load-active, load-reactive, loads-small}
 use Rattle.sums.specs.Sums.{sumsValue, shiftedIn, shifted, noPowers, added, exchanged, Small, SumsSmall, CanShift, CanAdd, CanExchange}
 
 -- ---- what an array holds for a sum x of n powers: P, or Q + 32,768 n
@@ -81,8 +81,8 @@ record PowersOf (entry : ℕ → Power → ℕ) (vs : Settings) (powers : List �
 
 -- ---- the array shifted
 
-none-at : (s : ℕ) → s < 4 → getD noPowers s 0 ≡ 0
-none-at s h = getD-replicate 16 s 0 0 (omega arith)
+none-at : (s : ℕ) → s < 4 → getD noPowers (4 * 0 + s) 0 ≡ 0
+none-at s h = getD-replicate 16 (4 * 0 + s) 0 0 (omega arith)
 
 module _ {entry : ℕ → Power → ℕ} {vs : Settings} {powers : List ℕ} (l : PowersOf entry vs powers) (c : Choice) (small : Every SettingSmall c) where
   powers-small : Small 16 powers
@@ -93,51 +93,49 @@ module _ {entry : ℕ → Power → ℕ} {vs : Settings} {powers : List ℕ} (l 
       let most = l .adds .most 1 (powerIn s (settingOf vs j)) (power-small (settingOf vs j) (setting-small vs (l .small) j) s) in
       omega (arith, ap (λ i. getD powers i 0) place, l .at j s (omega arith) (omega arith))
 
-  can-shift : (j : ℕ) (less : List ℕ) → length c ≤ mostLoads → j < 4 → ((s : ℕ) → s < 4 → getD less s 0 ≤ getD (entriesOf entry c) s 0)
-      → CanShift (entriesOf entry c) powers j less
-  can-shift j less few place counted =
-      record { sums-small = entries-small (l .adds) c small few; powers-small = powers-small; place = place; counted = counted }
+  can-shift : (j : ℕ) (less : List ℕ) (i : ℕ) → length c ≤ mostLoads → j < 4 → i < 4
+      → ((s : ℕ) → s < 4 → getD less (4 * i + s) 0 ≤ getD (entriesOf entry c) s 0) → CanShift (entriesOf entry c) powers j less i
+  can-shift j less i few place source counted =
+      record { sums-small = entries-small (l .adds) c small few; powers-small = powers-small; place = place; source = source; counted = counted }
 
-  -- the array of c′, whose entries and `less` are as much as those of c and setting j
-  shifted-to : (j : ℕ) (less : List ℕ) (c′ : Choice) → j < 4
-      → ((s : ℕ) → s < 4 → entry (length c′) (sumIn s c′) + getD less s 0 ≡ entry (length c + 1) (plus (sumIn s c) (powerIn s (settingOf vs j))))
-      → shifted (entriesOf entry c) powers j less ≡ entriesOf entry c′
+  -- the array of c′, whose entries and setting i of `less` are as much as those of c and setting j
+  shifted-to : (j : ℕ) (less : List ℕ) (i : ℕ) (c′ : Choice) → j < 4
+      → ((s : ℕ) → s < 4 → entry (length c′) (sumIn s c′) + getD less (4 * i + s) 0 ≡ entry (length c + 1) (plus (sumIn s c) (powerIn s (settingOf vs j))))
+      → shifted (entriesOf entry c) powers j less i ≡ entriesOf entry c′
   unfolding shifted
-  shifted-to j less c′ place same =
-      upto-is (shiftedIn (entriesOf entry c) powers j less) (entriesOf entry c′) 0
+  shifted-to j less i c′ place same =
+      upto-is (shiftedIn (entriesOf entry c) powers j less i) (entriesOf entry c′) 0
       (λ s h. omega (arith, entry-at entry c s h, entry-at entry c′ s h, l .at j s place h, same s h, entry-more (l .adds) c small (settingOf vs j) (setting-small vs (l .small) j) s))
 
-  can-shift-more : (j : ℕ) → length c ≤ mostLoads → j < 4 → CanShift (entriesOf entry c) powers j noPowers
-  can-shift-more j few place = can-shift j noPowers few place (λ s h. omega (arith, none-at s h))
+  can-shift-more : (j : ℕ) → length c ≤ mostLoads → j < 4 → CanShift (entriesOf entry c) powers j noPowers 0
+  can-shift-more j few place = can-shift j noPowers 0 few place (omega arith) (λ s h. omega (arith, none-at s h))
 
-  shifted-more : (j : ℕ) → j < 4 → shifted (entriesOf entry c) powers j noPowers ≡ entriesOf entry (snoc (settingOf vs j) c)
+  shifted-more : (j : ℕ) → j < 4 → shifted (entriesOf entry c) powers j noPowers 0 ≡ entriesOf entry (snoc (settingOf vs j) c)
   shifted-more j place =
       let v = settingOf vs j in
-      shifted-to j noPowers (snoc v c) place
+      shifted-to j noPowers 0 (snoc v c) place
       (λ s h. omega (arith, none-at s h, ap₂ entry (length-append c (v ∷ [])) (sum-last s c v)))
 
-  module _ (k : ℕ) (inside : k < length c) (standing : getD c k noSetting ≡ settingOf vs 0) where
-    -- the load's entries at setting 0
-    first-at : (s : ℕ) → s < 4 → getD powers s 0 ≡ entry 1 (powerIn s (getD c k noSetting))
-    first-at s h =
-        let e : s ≡ 4 * 0 + s = omega arith in
-        ap (λ i. getD powers i 0) e ∙ l .at 0 s (omega arith) h ∙ ap (λ v. entry 1 (powerIn s v)) (sym standing)
+  -- load k + 1 has setting i
+  module _ (k i : ℕ) (inside : k < length c) (four : i < 4) (has : getD c k noSetting ≡ settingOf vs i) where
+    has-at : (s : ℕ) → s < 4 → getD powers (4 * i + s) 0 ≡ entry 1 (powerIn s (getD c k noSetting))
+    has-at s h = l .at i s four h ∙ ap (λ v. entry 1 (powerIn s v)) (sym has)
 
-    can-shift-set : length c ≤ mostLoads → CanShift (entriesOf entry c) powers 1 powers
+    can-shift-set : length c ≤ mostLoads → CanShift (entriesOf entry c) powers 1 powers i
     can-shift-set few =
-        can-shift 1 powers few (omega arith)
-        (λ s h. omega (arith, first-at s h, entry-at entry c s h, entry-part (l .adds) c small k noSetting s inside))
+        can-shift 1 powers i few (omega arith) four
+        (λ s h. omega (arith, has-at s h, entry-at entry c s h, entry-part (l .adds) c small k noSetting s inside))
 
-    shifted-set : shifted (entriesOf entry c) powers 1 powers ≡ entriesOf entry (set c k (settingOf vs 1))
+    shifted-set : shifted (entriesOf entry c) powers 1 powers i ≡ entriesOf entry (set c k (settingOf vs 1))
     shifted-set =
         let v = settingOf vs 1 in
         let u = getD c k noSetting in
         let w = every-set SettingSmall c k v small (setting-small vs (l .small) 1) in
-        shifted-to 1 powers (set c k v) (omega arith)
+        shifted-to 1 powers i (set c k v) (omega arith)
         (λ s h.
         let same : entry (length (set c k v) + 1) (plus (sumIn s (set c k v)) (powerIn s u)) ≡ entry (length c + 1) (plus (sumIn s c) (powerIn s v))
         = ap₂ (λ n x. entry (n + 1) x) (length-set c k v) (sum-set s c k v noSetting inside) in
-        omega (arith, same, first-at s h, entry-more (l .adds) (set c k v) w u (every-at SettingSmall c noSetting small k inside) s))
+        omega (arith, same, has-at s h, entry-more (l .adds) (set c k v) w u (every-at SettingSmall c noSetting small k inside) s))
 
 -- ---- the values that hold the sums and a load
 
@@ -173,23 +171,27 @@ unfolding added sumsValue
 added-last c vs j small sized place =
     cc (shifted-more (actives-of vs sized) c small j place, shifted-more (reactives-of vs sized) c small j place)
 
+-- load k + 1 has its least setting
 module _ (c : Choice) (vs : Settings) (k : ℕ) (small : Every SettingSmall c) (sized : Every SettingSmall vs) (inside : k < length c)
-    (standing : getD c k noSetting ≡ settingOf vs 0) where
+    (few : leastOf vs < 4) (has : getD c k noSetting ≡ settingOf vs (leastOf vs)) where
+  least-is : loadValue vs .least ≡ leastOf vs
+  unfolding loadValue
+  least-is = refl
+
   pub can-exchange : length c ≤ mostLoads → CanExchange (sumsValue c) (loadValue vs)
   unfolding sumsValue
-  can-exchange few =
-      record { active = can-shift-set (actives-of vs sized) c small k inside standing few; reactive = can-shift-set (reactives-of vs sized) c small k inside standing few }
+  can-exchange n =
+      record {
+        active = rw least-is (can-shift-set (actives-of vs sized) c small k (leastOf vs) inside few has n);
+        reactive = rw least-is (can-shift-set (reactives-of vs sized) c small k (leastOf vs) inside few has n);
+      }
 
   pub exchanged-set : exchanged (sumsValue c) (loadValue vs) ≡ sumsValue (set c k (settingOf vs 1))
   unfolding exchanged sumsValue
-  exchanged-set = cc (shifted-set (actives-of vs sized) c small k inside standing, shifted-set (reactives-of vs sized) c small k inside standing)
+  exchanged-set =
+      cc (least-is, shifted-set (actives-of vs sized) c small k (leastOf vs) inside few has, shifted-set (reactives-of vs sized) c small k (leastOf vs) inside few has)
 
 -- ---- choices of a valid book
-
-pub mem-at : (vs : Settings) (c : ℕ) → c < length vs → Mem (settingOf vs c) vs
-mem-at [] c h = absurd (omega arith)
-mem-at (v ∷ vs) zero h = inl refl
-mem-at (v ∷ vs) (suc c) h = inr (mem-at vs c (le-of-suc-le-suc h))
 
 pub set-choice : (loads : List Settings) (c : Choice) (k : ℕ) (v : Setting) → IsChoice loads c → k < length loads → Mem v (getD loads k [])
     → IsChoice loads (set c k v)
@@ -203,18 +205,24 @@ module _ (b : Problem) (valid : ValidBook b) where
     pub choice-sums : SumsSmall (sumsValue c)
     choice-sums = sums-small c (choice-small b valid c chosen) (choice-few b valid c chosen)
 
-    -- load k + 1 stands
-    module _ (k : ℕ) (inside : k < length (b .loads)) (standing : getD c k noSetting ≡ settingOf (getD (b .loads) k []) 0) where
+    -- load k + 1 has its least setting
+    module _ (k : ℕ) (inside : k < length (b .loads)) (has : getD c k noSetting ≡ settingOf (getD (b .loads) k []) (leastOf (getD (b .loads) k []))) where
+      labelled : Labelled (getD (b .loads) k [])
+      labelled = every-at Labelled (b .loads) [] (valid .loads .labels) k inside
+
+      least-few : leastOf (getD (b .loads) k []) < 4
+      least-few = omega (arith, labelled .least)
+
       pub choice-can-exchange : CanExchange (sumsValue c) (loadValue (getD (b .loads) k []))
       choice-can-exchange =
-          can-exchange c (getD (b .loads) k []) k (choice-small b valid c chosen) (loads-small b valid k) (omega (arith, chosen-length (b .loads) c chosen)) standing
+          can-exchange c (getD (b .loads) k []) k (choice-small b valid c chosen) (loads-small b valid k) (omega (arith, chosen-length (b .loads) c chosen)) least-few has
           (choice-few b valid c chosen)
 
       pub choice-exchanged : exchanged (sumsValue c) (loadValue (getD (b .loads) k [])) ≡ sumsValue (set c k (settingOf (getD (b .loads) k []) 1))
       choice-exchanged =
-          exchanged-set c (getD (b .loads) k []) k (choice-small b valid c chosen) (loads-small b valid k) (omega (arith, chosen-length (b .loads) c chosen)) standing
+          exchanged-set c (getD (b .loads) k []) k (choice-small b valid c chosen) (loads-small b valid k) (omega (arith, chosen-length (b .loads) c chosen)) least-few has
 
       pub choice-set : IsChoice (b .loads) (set c k (settingOf (getD (b .loads) k []) 1))
       choice-set =
           set-choice (b .loads) c k (settingOf (getD (b .loads) k []) 1) chosen inside
-          (mem-at (getD (b .loads) k []) 1 (every-at Labelled (b .loads) [] (valid .loads .labels) k inside .several))
+          (offered-mem (getD (b .loads) k []) labelled 1 (offers-one (getD (b .loads) k []) labelled))

@@ -17,12 +17,12 @@ sumsValue c =
       reactives = map (λ s. raisedBy (length c) (sumIn s c .q)) (upto mostSlots);
     }
 
--- the sums of P, or of Q, with setting c of a load's `powers` more and setting 0 of `less` less: in slot s, and in each slot
-abbrev pub shiftedIn : List ℕ → List ℕ → ℕ → List ℕ → ℕ → ℕ
-shiftedIn sums powers c less s = getD sums s 0 + getD powers (mostSlots * c + s) 0 - getD less s 0
+-- the sums of P, or of Q, with setting c of a load's `powers` more and setting `from` of `less` less: in slot s, and in each slot
+abbrev pub shiftedIn : List ℕ → List ℕ → ℕ → List ℕ → ℕ → ℕ → ℕ
+shiftedIn sums powers c less from s = getD sums s 0 + getD powers (mostSlots * c + s) 0 - getD less (mostSlots * from + s) 0
 
-unfoldable pub shifted : List ℕ → List ℕ → ℕ → List ℕ → List ℕ
-shifted sums powers c less = map (shiftedIn sums powers c less) (upto mostSlots)
+unfoldable pub shifted : List ℕ → List ℕ → ℕ → List ℕ → ℕ → List ℕ
+shifted sums powers c less from = map (shiftedIn sums powers c less from) (upto mostSlots)
 
 abbrev pub noPowers : List ℕ
 noPowers = replicate mostPowers 0
@@ -31,16 +31,16 @@ noPowers = replicate mostPowers 0
 unfoldable pub added : Sums → Load → ℕ → Sums
 added v l c =
     record {
-      actives = shifted (v .actives) (l .actives) c noPowers;
-      reactives = shifted (v .reactives) (l .reactives) c noPowers;
+      actives = shifted (v .actives) (l .actives) c noPowers 0;
+      reactives = shifted (v .reactives) (l .reactives) c noPowers 0;
     }
 
--- the sums with setting 1 of a load in place of its setting 0
+-- the sums with setting 1 of a load in place of its least setting
 unfoldable pub exchanged : Sums → Load → Sums
 exchanged v l =
     record {
-      actives = shifted (v .actives) (l .actives) 1 (l .actives);
-      reactives = shifted (v .reactives) (l .reactives) 1 (l .reactives);
+      actives = shifted (v .actives) (l .actives) 1 (l .actives) (l .least);
+      reactives = shifted (v .reactives) (l .reactives) 1 (l .reactives) (l .least);
     }
 
 -- ---- what the functions require
@@ -54,16 +54,17 @@ pub record SumsSmall (v : Sums) : Type 0 where
   pub reactive : Small mostSlots (v .reactives)
 
 -- the sums count what is taken away
-pub record CanShift (sums powers : List ℕ) (c : ℕ) (less : List ℕ) : Type 0 where
+pub record CanShift (sums powers : List ℕ) (c : ℕ) (less : List ℕ) (from : ℕ) : Type 0 where
   pub sums-small : Small mostSlots sums
   pub powers-small : Small mostPowers powers
   pub place : c < mostSettings
-  pub counted : (s : ℕ) → s < mostSlots → getD less s 0 ≤ getD sums s 0
+  pub source : from < mostSettings
+  pub counted : (s : ℕ) → s < mostSlots → getD less (mostSlots * from + s) 0 ≤ getD sums s 0
 
 pub record CanAdd (v : Sums) (l : Load) (c : ℕ) : Type 0 where
-  pub active : CanShift (v .actives) (l .actives) c noPowers
-  pub reactive : CanShift (v .reactives) (l .reactives) c noPowers
+  pub active : CanShift (v .actives) (l .actives) c noPowers 0
+  pub reactive : CanShift (v .reactives) (l .reactives) c noPowers 0
 
 pub record CanExchange (v : Sums) (l : Load) : Type 0 where
-  pub active : CanShift (v .actives) (l .actives) 1 (l .actives)
-  pub reactive : CanShift (v .reactives) (l .reactives) 1 (l .reactives)
+  pub active : CanShift (v .actives) (l .actives) 1 (l .actives) (l .least)
+  pub reactive : CanShift (v .reactives) (l .reactives) 1 (l .reactives) (l .least)

@@ -32,14 +32,14 @@ impl Sums {
         let reactives = self.reactives;
         let p = load.actives;
         let q = load.reactives;
-        let actives = shifted(actives, p, c, [0; Load::POWERS]);
-        let reactives = shifted(reactives, q, c, [0; Load::POWERS]);
+        let actives = shifted(actives, p, c, [0; Load::POWERS], 0);
+        let reactives = shifted(reactives, q, c, [0; Load::POWERS], 0);
         self.actives = actives;
         self.reactives = reactives;
         self
     }
 
-    // With setting 1 of a load in place of its setting 0.
+    // With setting 1 of a load in place of its least setting.
     pub fn exchanged(mut self, load: Load) -> Sums
         requires { ⌜ CanExchange self load ⌝ }
         ensures { λ r. ⌜ r ≡ exchanged self load ⌝ }
@@ -48,28 +48,29 @@ impl Sums {
         let reactives = self.reactives;
         let p = load.actives;
         let q = load.reactives;
-        let actives = shifted(actives, p, 1, p);
-        let reactives = shifted(reactives, q, 1, q);
+        let actives = shifted(actives, p, 1, p, load.least);
+        let reactives = shifted(reactives, q, 1, q, load.least);
         self.actives = actives;
         self.reactives = reactives;
         self
     }
 }
 
-// The sums of P, or of Q, with setting c of a load's `powers` more and setting 0 of `less` less.
+// The sums of P, or of Q, with setting c of a load's `powers` more and setting `from` of `less` less.
 fn shifted(
     sums: [u64; Book::SLOTS],
     powers: [u64; Load::POWERS],
     c: usize,
     less: [u64; Load::POWERS],
+    from: usize,
 ) -> [u64; Book::SLOTS]
-    requires { ⌜ CanShift sums powers c less ⌝ }
-    ensures { λ r. ⌜ r ≡ shifted sums powers c less ⌝ }
+    requires { ⌜ CanShift sums powers c less from ⌝ }
+    ensures { λ r. ⌜ r ≡ shifted sums powers c less from ⌝ }
 {
     let mut next = sums;
     let mut s: usize = 0;
     while s < Book::SLOTS {
-        next[s] = sums[s] + powers[Book::SLOTS * c + s] - less[s];
+        next[s] = sums[s] + powers[Book::SLOTS * c + s] - less[Book::SLOTS * from + s];
         s += 1;
     }
     next

@@ -7,7 +7,7 @@ use borrow.Author.Needs.{needs}
 use native.Mathlib.Omega.{arith}
 use Rattle.model.proofs.HeldLaws.{held-count, held-few}
 use Rattle.chosen.proofs.picks_on.Statement.{statement}
-use Rattle.chosen.proofs.SheetChoiceLaws.{ReadUpto, read-start, read-more, read-lost, read-found}
+use Rattle.chosen.proofs.SheetChoiceLaws.{ReadUpto, read-start, read-more, read-below, read-past, read-found}
 use Rattle.chosen.proofs.picks_on.Tie as tie
 
 abbrev Inv-loop : tie.InvT-loop
@@ -42,7 +42,14 @@ returns : tie.Need-returns Inv-loop μ-loop
 returns c =
     let a = c .before .before .before .before .before .before .before in
     let l = c .before .before .before .before .before .loop in
-    read-lost (a .args .t2) (a .pre .0) (a .args .sheet .now) (l .picks) (l .k) _ _ (omega arith) (c .before .before .number .ensures) (c .if1 .taken)
+    read-below (a .args .t2) (a .pre .0) (a .args .sheet .now) (l .picks) (l .k) _ _ (omega arith) (c .before .before .number .ensures) (c .if1 .taken)
+
+returns-2 : tie.Need-returns-2 Inv-loop μ-loop
+returns-2 c =
+    let a = c .before .before .before .before .before .before .before .before .before .before in
+    let l = c .before .before .before .before .before .before .before .before .loop in
+    read-past (a .args .t2) (a .pre .0) (a .args .sheet .now) (l .picks) (l .k) _ _ (omega arith) (c .before .before .before .before .before .number .ensures)
+    (c .before .before .before .if1 .left) (c .if2 .taken)
 
 mul-picks : tie.Need-mul-picks Inv-loop μ-loop
 mul-picks c = search needs
@@ -58,15 +65,16 @@ loop-less c = search needs
 
 loop-again : tie.Need-loop-again Inv-loop μ-loop
 loop-again c =
-    let a = c .before .before .before .before .before .before .before in
-    let l = c .before .before .before .before .before .loop in (
+    let a = c .before .before .before .before .before .before .before .before .before .before in
+    let l = c .before .before .before .before .before .before .before .before .loop in (
       search needs,
       search needs,
-      read-more (a .args .t2) (a .pre .0) (a .args .sheet .now) (l .picks) (l .k) _ _ (omega arith) (l .inv .2) (c .before .before .number .ensures) (c .if1 .left),
+      read-more (a .args .t2) (a .pre .0) (a .args .sheet .now) (l .picks) (l .k) _ _ (omega arith) (l .inv .2) (c .before .before .before .before .before .number .ensures)
+          (c .before .before .before .if1 .left) (c .if2 .left),
     )
 
-returns-2 : tie.Need-returns-2 Inv-loop μ-loop
-returns-2 c =
+returns-3 : tie.Need-returns-3 Inv-loop μ-loop
+returns-3 c =
     let a = c .before .before .before in
     let l = c .before .loop in
     read-found (a .args .t2) (a .pre .0) (a .args .sheet .now) (l .picks) (l .k) (omega arith) (l .inv .2)
@@ -84,9 +92,10 @@ picks-on-spec =
     add-number
     number-requires
     returns
+    returns-2
     mul-picks
     array-write-picks
     add-k
     loop-less
     loop-again
-    returns-2)
+    returns-3)

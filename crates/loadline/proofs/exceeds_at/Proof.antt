@@ -2,10 +2,9 @@
 use mathlib.Core.Path.{ap}
 use lib.Dec.{ltb}
 use Rattle.model.specs.Book.{settings}
-use Rattle.model.specs.Choice.{powerIn}
-use Rattle.model.specs.Values.{settingOf}
+use Rattle.model.specs.Choice.{settingOf, powerIn}
 use Rattle.model.proofs.ValidLaws.{small-settings}
-use Rattle.model.proofs.HeldLaws.{setting-small}
+use Rattle.model.proofs.NumberLaws.{setting-small}
 use Rattle.loadline.proofs.LineLaws.{abs-raised}
 use borrow.Author.Needs.{needs}
 use Rattle.loadline.proofs.exceeds_at.Statement.{statement}

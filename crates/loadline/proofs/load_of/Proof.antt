@@ -92,7 +92,7 @@ returns c =
     let many : a .count + 1 ≡ length vs = omega (arith, length-settings (a .slots) (a .line .now)) in
     let actives-are : l .actives ≡ map (active vs) (upto 16) = fill-all (active vs) (l .actives) 16 (l .k) (l .inv .1) (omega arith) (omega arith) (l .inv .3) in
     let reactives-are : l .reactives ≡ map (reactive vs) (upto 16) = fill-all (reactive vs) (l .reactives) 16 (l .k) (l .inv .2) (omega arith) (omega arith) (l .inv .4) in
-    λ i. record { settings = many i; worths = c .before .before .worths-of .ensures i; actives = actives-are i; reactives = reactives-are i }
+    λ i. record { least = 0; settings = many i; worths = c .before .before .worths-of .ensures i; actives = actives-are i; reactives = reactives-are i }
 
 pub load-of-spec : {M : Type 1} → statement M
 load-of-spec =

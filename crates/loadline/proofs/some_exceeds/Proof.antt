@@ -5,8 +5,7 @@ use mathlib.Core.Bool.{false}
 use mathlib.Core.List.{List, map}
 use Rattle.model.specs.Lists.{upto, any}
 use Rattle.model.specs.Book.{Power, Setting, optionCount, settings, reactiveExceeds}
-use Rattle.model.specs.Choice.{powerIn}
-use Rattle.model.specs.Values.{settingOf}
+use Rattle.model.specs.Choice.{settingOf, powerIn}
 use Rattle.model.proofs.UptoLaws.{any-here, any-more}
 use Rattle.loadline.proofs.LineLaws.{exceedsIn, exceeds-is}
 use borrow.Author.Needs.{needs}

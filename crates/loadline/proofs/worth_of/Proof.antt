@@ -1,7 +1,7 @@
 -- `loadline::worth_of` meets its contract: standing, past the last option, or an option. Assumes nothing.
-use mathlib.Core.Path.{_≡_, _∙_}
+use mathlib.Core.Path.{sym, _∙_}
 use Prim.Native.Nat.{_-_}
-use Rattle.loadline.proofs.LineLaws.{option-ranges, setting-option, setting-past, option-next, holds-option}
+use Rattle.loadline.proofs.LineLaws.{option-ranges, setting-option, setting-past, worth-standing, option-next, holds-option}
 use native.Mathlib.Omega.{arith}
 use Rattle.loadline.proofs.worth_of.Statement.{statement}
 use Rattle.loadline.proofs.worth_of.Tie as tie
@@ -9,8 +9,7 @@ use Rattle.loadline.proofs.worth_of.Tie as tie
 returns : tie.Need-returns
 returns c =
     let a = c .before .before .args in
-    let z : a .c ≡ 0 = omega arith in
-    rw z
+    sym (worth-standing (a .slots) (a .c) (a .line .now) (c .if1 .taken))
 
 returns-2 : tie.Need-returns-2
 returns-2 c =

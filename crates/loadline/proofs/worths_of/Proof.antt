@@ -5,7 +5,7 @@ use mathlib.Core.List.{map}
 use lib.ListN.{length, take, length-set}
 use Rattle.model.specs.Lists.{upto}
 use Rattle.model.specs.Book.{settings}
-use Rattle.model.specs.Values.{settingOf}
+use Rattle.model.specs.Choice.{settingOf}
 use Rattle.model.proofs.UptoLaws.{fill-more, fill-all}
 use borrow.Author.Needs.{needs}
 use native.Mathlib.Omega.{arith}

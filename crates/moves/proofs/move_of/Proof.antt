@@ -5,7 +5,8 @@ use native.Mathlib.Nat.{mul-le-mul}
 use native.Mathlib.Omega.{arith}
 use borrow.Author.Needs.{needs}
 use lib.ListN.{getD, set, length}
-use Rattle.model.specs.Values.{raised, settingOf}
+use Rattle.model.specs.Choice.{settingOf}
+use Rattle.model.specs.Values.{raised}
 use Rattle.slots.specs.Slots.{Laid}
 use Rattle.slots.proofs.ExtentLaws.{back-one}
 use Rattle.moves.specs.Moves.{LoadHeld}
@@ -145,14 +146,14 @@ element-copy-out-t40 : tie.Need-element-copy-out-t40 Inv-loop μ-loop
 element-copy-out-t40 c = search needs
 
 mul-t42 : tie.Need-mul-t42 Inv-loop μ-loop
-mul-t42 c = omega (arith, mul-le-mul (c .before .before .loop .inv .2) (c .before .before .before .pre .1 .1 .1))
+mul-t42 c = omega (arith, mul-le-mul (c .before .before .loop .inv .2) (c .before .before .before .pre .1 .1 .2))
 
 returns : tie.Need-returns Inv-loop μ-loop
 returns c h l k e =
     let s = c .before .before .before in
     let m = c .before .before .loop in
     let none : m .t ≡ 0 = omega arith in
-    moved-all (s .args .t1) h (s .args .c) (s .args .unit) k (l .slots) (m .back) (m .up) (m .down) (m .active) (s .pre .1 .1 .0) e (l .few) (l .fits)
+    moved-all (s .args .t1) h (s .args .c) (s .args .unit) k (l .slots) (m .back) (m .up) (m .down) (m .active) (s .pre .1 .1 .0) (s .pre .1 .1 .1) e (l .few) (l .fits)
     (subst (λ t. Moved (l .slots) (settingOf (h .settings) (s .args .c)) t (m .back) (m .up) (m .down) (m .active)) none (m .inv .4 h l))
 
 pub move-of-spec : {M : Type 1} → statement M

@@ -1,10 +1,10 @@
 -- `moves::moves_of` meets its contract. The invariant: the settings passed have their moves. Assumes nothing.
-use Prim.Native.Nat.{ℕ, _-_, _^_, _<_, _≤_}
+use Prim.Native.Nat.{ℕ, _+_, _-_, _^_, _<_, _≤_}
 use mathlib.Core.Path.{_≡_, refl, _∙_}
 use native.Mathlib.Omega.{arith}
 use borrow.Author.Needs.{needs}
 use lib.ListN.{getD, length, length-set}
-use Rattle.model.specs.Values.{settingOf}
+use Rattle.model.specs.Choice.{settingOf}
 use Rattle.stretch.specs.Stretch.{noMove}
 use Rattle.slots.specs.Slots.{Laid}
 use Rattle.slots.proofs.ArrayLaws.{set-each}
@@ -15,12 +15,12 @@ use Rattle.moves.proofs.moves_of.Statement.{statement}
 use Rattle.moves.proofs.moves_of.Tie as tie
 
 abbrev Inv-loop : tie.InvT-loop
-Inv-loop load unit count slots settings moves₀ c₀ moves c =
-    (c ≤ settings) × (settings ≤ 4) × (length moves ≡ 4)
-    × ((h : LoadHeld load) (l : Laid slots count) (k : ℕ) → unit ≡ 4 ^ k → (i : ℕ) → i < c → MoveIs 0 (l .slots) k (settingOf (h .settings) i) (getD moves i noMove))
+Inv-loop load unit count slots least settings moves₀ i₀ moves i =
+    (i ≤ settings) × (least + settings ≤ 4) × (length moves ≡ 4)
+    × ((h : LoadHeld load) (l : Laid slots count) (k : ℕ) → unit ≡ 4 ^ k → (j : ℕ) → j < i → MoveIs 0 (l .slots) k (settingOf (h .settings) (least + j)) (getD moves j noMove))
 
 abbrev μ-loop : tie.MeasureT-loop
-μ-loop load unit count slots settings moves₀ c₀ moves c = settings - c
+μ-loop load unit count slots least settings moves₀ i₀ moves i = settings - i
 
 no-move-requires : tie.Need-no-move-requires Inv-loop μ-loop
 no-move-requires c κs = search needs
@@ -28,10 +28,13 @@ no-move-requires c κs = search needs
 loop-holds : tie.Need-loop-holds Inv-loop μ-loop
 loop-holds c = (omega arith, load-few (c .before .args .load) (c .before .pre .0), refl, λ h l k e i j. absurd (omega arith))
 
+add-move-of : tie.Need-add-move-of Inv-loop μ-loop
+add-move-of c = search needs
+
 move-of-requires : tie.Need-move-of-requires Inv-loop μ-loop
 move-of-requires c κs =
     let s = c .before .before .before in
-    (s .pre .0, (s .pre .1 .0, (c .loop-test .taken, s .pre .1 .1)))
+    (s .pre .0, (s .pre .1 .0, (omega arith, omega arith, s .pre .1 .1)))
 
 mul-moves : tie.Need-mul-moves Inv-loop μ-loop
 mul-moves c = search needs
@@ -39,8 +42,8 @@ mul-moves c = search needs
 array-set-from-moves : tie.Need-array-set-from-moves Inv-loop μ-loop
 array-set-from-moves c = search needs
 
-add-c : tie.Need-add-c Inv-loop μ-loop
-add-c c = search needs
+add-i : tie.Need-add-i Inv-loop μ-loop
+add-i c = search needs
 
 loop-less : tie.Need-loop-less Inv-loop μ-loop
 loop-less c = search needs
@@ -50,9 +53,9 @@ loop-again c =
     let m = c .before .before .loop in (
       omega arith,
       m .inv .1,
-      length-set (m .moves) (m .c) (c .move-of .result) ∙ m .inv .2,
+      length-set (m .moves) (m .i) (c .move-of .result) ∙ m .inv .2,
       λ h l k e.
-          set-each (λ i x. MoveIs 0 (l .slots) k (settingOf (h .settings) i) x) (m .moves) (m .c) (c .move-of .result) noMove (omega arith) (c .move-of .ensures h l k e) (m .inv .3 h l k e),
+          set-each (λ j x. MoveIs 0 (l .slots) k (settingOf (h .settings) (c .before .before .before .before .args .load .least + j)) x) (m .moves) (m .i) (c .move-of .result) noMove (omega arith) (c .move-of .ensures h l k e) (m .inv .3 h l k e),
     )
 
 returns : tie.Need-returns Inv-loop μ-loop
@@ -69,10 +72,11 @@ moves-of-spec =
     μ-loop
     no-move-requires
     loop-holds
+    add-move-of
     move-of-requires
     mul-moves
     array-set-from-moves
-    add-c
+    add-i
     loop-less
     loop-again
     returns)

@@ -12,10 +12,10 @@ use Rattle.sums.proofs.shifted.Statement.{statement}
 use Rattle.sums.proofs.shifted.Tie as tie
 
 abbrev Inv-loop : tie.InvT-loop
-Inv-loop c sums powers less next₀ s₀ next s = (s ≤ 4) × (length next ≡ 4) × (take s next ≡ map (shiftedIn sums powers c less) (upto s))
+Inv-loop c from sums powers less next₀ s₀ next s = (s ≤ 4) × (length next ≡ 4) × (take s next ≡ map (shiftedIn sums powers c less from) (upto s))
 
 abbrev μ-loop : tie.MeasureT-loop
-μ-loop c sums powers less next₀ s₀ next s = 4 - s
+μ-loop c from sums powers less next₀ s₀ next s = 4 - s
 
 loop-holds : tie.Need-loop-holds Inv-loop μ-loop
 loop-holds c = (search needs, search needs, refl)
@@ -47,14 +47,20 @@ add-next-2 c =
 mul-next-4 : tie.Need-mul-next-4 Inv-loop μ-loop
 mul-next-4 c = search needs
 
+add-next-3 : tie.Need-add-next-3 Inv-loop μ-loop
+add-next-3 c = search needs
+
+mul-next-5 : tie.Need-mul-next-5 Inv-loop μ-loop
+mul-next-5 c = search needs
+
 array-read-next-3 : tie.Need-array-read-next-3 Inv-loop μ-loop
 array-read-next-3 c = search needs
 
 sub-next : tie.Need-sub-next Inv-loop μ-loop
 sub-next c = omega (arith, c .before .before .pre .counted (c .before .loop .s) (omega arith))
 
-mul-next-5 : tie.Need-mul-next-5 Inv-loop μ-loop
-mul-next-5 c = search needs
+mul-next-6 : tie.Need-mul-next-6 Inv-loop μ-loop
+mul-next-6 c = search needs
 
 array-write-next : tie.Need-array-write-next Inv-loop μ-loop
 array-write-next c = search needs
@@ -69,14 +75,14 @@ loop-again : tie.Need-loop-again Inv-loop μ-loop
 loop-again c =
     let l = c .before .loop in
     let a = c .before .before .args in
-    (omega arith, simp length-set (l .inv .1), fill-more (shiftedIn (a .t1) (a .t2) (a .c) (a .t4)) (l .next) (l .s) _ (omega arith) refl (l .inv .2))
+    (omega arith, simp length-set (l .inv .1), fill-more (shiftedIn (a .t1) (a .t2) (a .c) (a .t4) (a .from)) (l .next) (l .s) _ (omega arith) refl (l .inv .2))
 
 returns : tie.Need-returns Inv-loop μ-loop
 unfolding shifted
 returns c =
     let l = c .before .loop in
     let a = c .before .before .args in
-    fill-all (shiftedIn (a .t1) (a .t2) (a .c) (a .t4)) (l .next) 4 (l .s) (l .inv .1) (omega arith) (omega arith) (l .inv .2)
+    fill-all (shiftedIn (a .t1) (a .t2) (a .c) (a .t4) (a .from)) (l .next) 4 (l .s) (l .inv .1) (omega arith) (omega arith) (l .inv .2)
 
 pub shifted-spec : {M : Type 1} → statement M
 shifted-spec =
@@ -93,9 +99,11 @@ shifted-spec =
     array-read-next-2
     add-next-2
     mul-next-4
+    add-next-3
+    mul-next-5
     array-read-next-3
     sub-next
-    mul-next-5
+    mul-next-6
     array-write-next
     add-s
     loop-less

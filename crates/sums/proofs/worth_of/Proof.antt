@@ -15,7 +15,7 @@ use Rattle.sums.proofs.worth_of.Tie as tie
 
 -- what the logic reads past the end of the loads
 abbrev noLoad : Load
-noLoad = record { settings = 0; worths = []; actives = []; reactives = [] }
+noLoad = record { least = 0; settings = 0; worths = []; actives = []; reactives = [] }
 
 abbrev Inv-loop : tie.InvT-loop
 Inv-loop book picks worth₀ k₀ worth k = (k ≤ book .count) × (book .count ≤ mostLoads) × (worth ≡ worthOf (picksUpto (problemOf book) picks k))
