@@ -186,6 +186,25 @@ fn standing_plans() {
     quick_case(b"passed over", later, &mut sheet);
 }
 
+// A load that must run, of a line of kind 07: it crowds out a better choice, and a sheet on which it stands is foreign; and one that is over the
+// limit at each level, which leaves the sheet before it in the buffer.
+fn must_run_plans() {
+    let mut work = [77u64; 1056];
+    let mut sheet = [46u8; 60];
+    let book =
+        b"0101030500000064000A\n0201000900040000\n0702000100050000000300060000\n0201000400030000\n";
+    plan_case(b"must run", book, &mut work, &mut sheet);
+    quick_case(b"must run", book, &mut sheet);
+    reader_case(
+        b"foreign, it stands",
+        book,
+        b"040000000D00000014010001\n050000000700000000000A\n",
+    );
+    let over = b"0101010A000000020005\n07020005000C0000000200060000\n";
+    plan_case(b"must run, no plan", over, &mut work, &mut sheet);
+    quick_case(b"must run, no plan", over, &mut sheet);
+}
+
 // The sheet reader on document 01's example and a sheet.
 fn example_case(name: &[u8], sheet: &[u8]) {
     reader_case(
@@ -334,6 +353,7 @@ fn main() {
     refused_budgets();
     plans();
     standing_plans();
+    must_run_plans();
     charges();
     orders();
     views();

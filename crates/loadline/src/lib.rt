@@ -13,7 +13,7 @@ ghost use Rattle.model.specs.Book.{noPower, standingPairs, optionStart, powerAt
 ghost use Rattle.model.specs.Choice.{settingOf, powerIn};
 ghost use Rattle.model.specs.Values.{loadValue};
 ghost use Rattle.model.specs.Bounds.{mostSlots, mostOptions, mostSettings};
-ghost use Rattle.loadline.specs.LoadLine.{LoadLine, powerValue};
+ghost use Rattle.loadline.specs.LoadLine.{LoadLine, leastNumber, powerValue};
 
 // An active power, and a reactive power plus 32,768.
 pub struct PowerValue {
@@ -39,6 +39,17 @@ fn standing_pairs(line: &[u8], slots: usize) -> usize
 {
     if hex::number(line, 0, 2) == 6 {
         return slots;
+    }
+    0
+}
+
+// The least number of a load line's settings, by its kind: 0, which is standing, or 1 where its load must run.
+fn least_number(line: &[u8]) -> usize
+    requires { ⌜ 4 ≤ length (now line) ⌝ }
+    ensures { λ r. ⌜ r ≡ leastNumber (now (line .entry)) ⌝ }
+{
+    if hex::number(line, 0, 2) == 7 {
+        return 1;
     }
     0
 }
@@ -74,7 +85,7 @@ fn standing_power(line: &[u8], slots: usize, pairs: usize, s: usize) -> PowerVal
     PowerValue::none()
 }
 
-// The power of setting c in slot s; none past the last option and slot.
+// The power of setting c in slot s; none past the last option and slot, and none where there is no standing.
 fn power_of(line: &[u8], slots: usize, pairs: usize, count: usize, c: usize, s: usize) -> PowerValue
     requires { ⌜ LoadLine slots pairs count (now line) ⌝ }
     ensures { λ r. ⌜ r ≡ powerValue (powerIn s (settingOf (settings slots (now (line .entry))) c)) ⌝ }
@@ -101,7 +112,7 @@ fn exceeds_at(line: &[u8], slots: usize, pairs: usize, count: usize, c: usize, s
     power.active < model::distance(power.reactive, 32768)
 }
 
-// |Q| > P in some setting and slot.
+// |Q| > P in some setting and slot. Where there is no standing, setting 0 has no power, and exceeds nowhere.
 fn some_exceeds(line: &[u8], slots: usize, pairs: usize, count: usize) -> bool
     requires { ⌜ LoadLine slots pairs count (now line) ⌝ }
     ensures { λ r. ⌜ r ≡ someExceeds (settings slots (now (line .entry))) ⌝ }
@@ -127,7 +138,7 @@ pub fn load_finding(line: &[u8], slots: usize) -> Finding
     if !hex::all_digits(line) {
         return Finding::Refused(Refusal::NotHex);
     }
-    if hex::wrong_kind(line, &[2, 6]) {
+    if hex::wrong_kind(line, &[2, 6, 7]) {
         return Finding::Refused(Refusal::WrongKind);
     }
     let count = hex::number(line, 2, 2);
@@ -185,9 +196,10 @@ pub fn load_of(line: &[u8], slots: usize, count: usize) -> Load
         actives[k] = power.active;
         reactives[k] = power.reactive;
     }
-    let settings = count + 1;
+    let least = least_number(line);
+    let settings = count + 1 - least;
     Load {
-        least: 0,
+        least,
         settings,
         worths,
         actives,

@@ -1,6 +1,6 @@
 -- The proved table: document 01's starred cases ("Trials at the bench"), the ends of M-102's range, two overloads near M-106's bound, charges (M-100),
--- orders of starting (M-101), views (M-103), standing loads that draw (M-104), and edges where a near mistake shows, as one table of facts about the
--- definitions, with one statement covering it. Star n is the n-th star of document 01.
+-- orders of starting (M-101), views (M-103), standing loads that draw (M-104), loads that must run (M-105), and edges where a near mistake shows, as one
+-- table of facts about the definitions, with one statement covering it. Star n is the n-th star of document 01.
 -- Assumes nothing.
 use mathlib.Core.Path.{_≡_, refl, ap₂, _∙_}
 use mathlib.Core.Bool.{Bool, true, false, _&&_}
@@ -14,12 +14,13 @@ use lib.Dec.{leb, ltb, eqb}
 use lib.IntN.{ℤ, pos, negℤ}
 use lib.ListN.{length, replicate}
 use Rattle.model.specs.declared.Answer.{Answer}
+use Rattle.model.specs.declared.SheetAnswer.{SheetAnswer}
 use Rattle.model.specs.declared.ChargeAnswer.{ChargeAnswer}
 use Rattle.model.specs.Lists.{upto, all, any, concat, sameLists}
 use Rattle.model.specs.Frames.{isDigit, digitValue, digit, valueFrom, field, digits, signed, unsigned, lineLength}
 use Rattle.model.specs.Refusals.{Result, refused, done, numberOf, first}
 use Rattle.model.specs.Answers.{Output, answerOf}
-use Rattle.model.specs.Book.{Problem, standingPairs, optionStart, standingPower, headerRules, someExceeds, loadRules, readLoads, readBook}
+use Rattle.model.specs.Book.{Problem, standingPairs, mustRun, optionStart, standingPower, headerRules, someExceeds, loadRules, readLoads, readBook}
 use Rattle.model.specs.Choice.{Choice, settingOf, square}
 use Rattle.model.specs.Grid.{stepFor, slotsOf, floorDiv, bestAdmitted, plan}
 use Rattle.model.specs.Trials.{cells, sameℤ, reachedCount, trialsUpto, trials}
@@ -29,7 +30,7 @@ use Rattle.model.specs.Quick.{sizeOf, takeIfFits, quickChoice, quickRule
 use Rattle.model.specs.Program.{refusalLine, printed, programOutput}
 use Rattle.model.specs.Demand.{apparentSquaredIn, closerBound}
 use Rattle.model.specs.Rounding.{floorBySum}
-use Rattle.model.specs.SheetReader.{sheetChoice}
+use Rattle.model.specs.SheetReader.{sheetChoice, sheetData, readerResult, sheetAnswerOf}
 use Rattle.model.specs.Charge.{rounded, chargeOf, choiceCharge, sheetCharge, chargeResult, chargeAnswerOf}
 use Rattle.model.specs.Order.{Running, starting, runningMask, andNot, startCount, wrongNames, someBlocked, left, ready, startNext, startedAfter, startOrder, OrderData, loadsOrder, sheetsOrder, orderResult}
 use Rattle.model.specs.Views.{accepted, shown, runningLoads, numberAndLevel, millLine, millResult, supplyView, supplyResult}
@@ -57,6 +58,8 @@ pub data Row : Type 0 where
   carries : String → ℕ → ℕ → ℕ → Row
   -- the program prints this for a book, and in each slot of that sheet 4d²(P² + Q²) is above (2d + 2)²S², and not above M-106's (2d + 3)²S²
   overloads : String → String → Row
+  -- the number, the line, the code, the worth and the trials that the sheet reader answers for a book and a sheet
+  answers : List ℕ → List ℕ → List ℕ → Row
   -- n / 40, rounded
   roundsCharge : ℕ → ℕ → Row
   -- the number, the line and the charge that a book, a sheet and prices are answered with
@@ -97,6 +100,10 @@ nearBound d s z = ltb (square (2 * d + 2) * square s) (4 * square d * z) && leb 
 abbrev answerNumbers : Answer → List ℕ
 answerNumbers a = a .number ∷ a .line ∷ a .bytes ∷ a .worth ∷ a .trials ∷ []
 
+-- the answer's number, line, code, worth and trials
+abbrev sheetNumbers : SheetAnswer → List ℕ
+sheetNumbers a = a .answer .number ∷ a .answer .line ∷ a .code ∷ a .answer .worth ∷ a .answer .trials ∷ []
+
 -- the answer's number, line and charge
 abbrev chargeNumbers : ChargeAnswer → List ℕ
 chargeNumbers a = a .answer .number ∷ a .answer .line ∷ a .charge ∷ []
@@ -130,6 +137,7 @@ holds (rounds x l g) = sameℤ (floorDiv x l) g && sameℤ (floorBySum x l) g
 holds (tries book each) = readWith (λ b. sameLists eqb (map (triesOf b) (upto (length (b .loads)))) each) book
 holds (carries book m x y) = readWith (inSlots (λ d s z. eqb z x && eqb (square (d + m) * square s) (square d * y) && leb x y)) book
 holds (overloads book out) = printsFor book out && readWith (inSlots nearBound) book
+holds (answers book sheet numbers) = sameLists eqb (sheetNumbers (sheetAnswerOf (readerResult book sheet))) numbers
 holds (roundsCharge n r) = eqb (rounded n) r
 holds (charges book sheet prices numbers) = sameLists eqb (chargeNumbers (chargeAnswerOf (chargeResult book sheet prices))) numbers
 holds (orders old new names room numbers) = sameLists eqb (orderNumbers (loadsOrder 3 names room (among old) (among new))) numbers
@@ -300,6 +308,63 @@ standingRows =
     ∷ ordersFrom (bytesOf heaters) heatersSheet heatersPlan (0 ∷ 0 ∷ []) 2 (0 ∷ 2 ∷ 0 ∷ 1 ∷ 2 ∷ [])
     ∷ []
 
+-- M-105: loads 1 and 3 draw (4, 0) and (3, 0) where they run; load 2 must run, at (5, 0) or (6, 0); the plan's sheet, and one on which load 2 stands
+abbrev store : String
+store = "0101030500000064000A\n0201000900040000\n0702000100050000000300060000\n0201000400030000\n"
+
+abbrev storeSheet : List ℕ
+storeSheet = bytesOf "040000000C0000000E010200\n050000000A00000000000A\n"
+
+abbrev storeStanding : List ℕ
+storeStanding = bytesOf "040000000D00000014010001\n050000000700000000000A\n"
+
+-- the same book, but load 2 may stand
+abbrev storeFree : String
+storeFree = "0101030500000064000A\n0201000900040000\n0202000100050000000300060000\n0201000400030000\n"
+
+-- one load that must run, at (12, 0) with worth 5, which is over the limit of 10, or at (6, 0) with worth 2
+abbrev fans : String
+fans = "0101010A00000064000A\n07020005000C0000000200060000\n"
+
+-- of loads that must run (M-105)
+unfoldable pub mustRunRows : List Row
+mustRunRows =
+    -- only the better choice breaks the limit: the other is the plan; the quick planner begins with option 1 and gives 17, after 11
+    prints fans "04000000020000000202\n050000000600000000000A\n"
+    ∷ quickPrints fans "FF110000\n"
+    ∷ shows quickIn (bytesOf fans) [] 44 (17 ∷ 0 ∷ 0 ∷ 0 ∷ 0 ∷ []) "FF110000\n"
+    ∷ shows quickIn (bytesOf fans) [] 43 (11 ∷ 0 ∷ 0 ∷ 0 ∷ 0 ∷ []) "FF0B0000\n"
+    -- with a limit of 5 both are over it: 17, and with one trial less in the budget 12; where the load may stand it does
+    ∷ prints "0101010A000000020005\n07020005000C0000000200060000\n" "FF110000\n"
+    ∷ prints "0101010A000000010005\n07020005000C0000000200060000\n" "FF0C0000\n"
+    ∷ prints "0101010A000000640005\n02020005000C0000000200060000\n" "04000000000000000300\n0500000000000000000005\n"
+    -- over the limit in one of two slots
+    ∷ prints "0102010A0000006400030002\n070100010003000000030000\n" "FF110000\n"
+    -- it crowds out a better choice, which is the plan where it may stand; the factor is o, and H counts no choice in which it stands
+    ∷ prints store "040000000C0000000E010200\n050000000A00000000000A\n"
+    ∷ tries store (2 ∷ 4 ∷ 8 ∷ [])
+    ∷ prints storeFree "040000000D00000014010001\n050000000700000000000A\n"
+    ∷ tries storeFree (2 ∷ 6 ∷ 12 ∷ [])
+    -- the quick planner begins with it at option 1: load 3 fits beside it, load 1 then does not, and trying load 2 changes nothing
+    ∷ quickPrints store "040000000500000003000101\n050000000800000000000A\n"
+    -- no pair has a ≤ R after load 1, of which each choice runs it: H(1) = 0
+    ∷ tries "0101020500000064000A\n07010005000B0000\n0201000500010000\n" (1 ∷ 0 ∷ [])
+    -- a sheet on which it stands is foreign, in each part that reads a sheet
+    ∷ answers (bytesOf store) storeSheet (0 ∷ 0 ∷ 9 ∷ 12 ∷ 14 ∷ [])
+    ∷ answers (bytesOf store) storeStanding (13 ∷ 0 ∷ 0 ∷ 0 ∷ 0 ∷ [])
+    ∷ answers (bytesOf storeFree) storeStanding (0 ∷ 0 ∷ 17 ∷ 13 ∷ 20 ∷ [])
+    ∷ charges (bytesOf store) storeStanding (20 ∷ []) (13 ∷ 0 ∷ 0 ∷ [])
+    ∷ ordersFrom (bytesOf store) storeStanding storeSheet (0 ∷ 0 ∷ 0 ∷ []) 3 (13 ∷ 0 ∷ [])
+    ∷ ordersFrom (bytesOf store) storeSheet storeStanding (0 ∷ 0 ∷ 0 ∷ []) 3 (13 ∷ 0 ∷ [])
+    ∷ shows millResult (bytesOf store) storeStanding 19 (13 ∷ 0 ∷ 0 ∷ 0 ∷ 0 ∷ []) "FF0D0000\n"
+    ∷ shows supplyResult (bytesOf store) storeStanding 23 (13 ∷ 0 ∷ 0 ∷ 0 ∷ 0 ∷ []) "FF0D0000\n"
+    -- "laid out as `02`": a `07` line with a standing pair, an option with |Q| = P, and one with |Q| = P + 1; and no header
+    ∷ prints "0101010A00000064000A\n070100080000000500040000\n" "FF050002\n"
+    ∷ reads "0101010A00000064000A\n070100050004FFFC\n"
+    ∷ prints "0101010A00000064000A\n070100050004FFFB\n" "FF070002\n"
+    ∷ prints "0701010A00000064000A\n0701000500050005\n" "FF030001\n"
+    ∷ []
+
 -- of sheets: charges, orders of starting and views, the longest book last
 unfoldable pub sheetRows : List Row
 sheetRows =
@@ -363,7 +428,7 @@ sheetRows =
 
 plan-rows-hold : all holds planRows ≡ true
 unfolding holds planRows programOutput refusalLine plannerResult planSheet fittingBook sizeRules
-    readBook readLoads headerRules loadRules someExceeds standingPairs optionStart standingPower first
+    readBook readLoads headerRules loadRules someExceeds standingPairs mustRun optionStart standingPower first
     isDigit digitValue digit valueFrom field digits signed unsigned lineLength
     slotsOf plan bestAdmitted cells trials reachedCount sheetBytes firstLine slotLines sumsAndLimits slotLine numbersOf
     quickResult quickSheet quickRules quickChoice takeIfFits sizeOf settingOf
@@ -371,7 +436,7 @@ plan-rows-hold = refl
 
 standing-rows-hold : all holds standingRows ≡ true
 unfolding holds standingRows programOutput refusalLine plannerResult planSheet fittingBook sizeRules
-    readBook readLoads headerRules loadRules someExceeds standingPairs optionStart standingPower first
+    readBook readLoads headerRules loadRules someExceeds standingPairs mustRun optionStart standingPower first
     isDigit digitValue digit valueFrom field digits signed unsigned lineLength
     slotsOf plan bestAdmitted cells trials reachedCount sheetBytes firstLine slotLines sumsAndLimits slotLine numbersOf
     quickResult quickSheet quickRules quickChoice takeIfFits sizeOf settingOf
@@ -379,9 +444,19 @@ unfolding holds standingRows programOutput refusalLine plannerResult planSheet f
     orderResult sheetsOrder loadsOrder starting runningMask andNot startCount wrongNames someBlocked left ready startNext startedAfter startOrder ones onesIn
 standing-rows-hold = refl
 
+must-run-rows-hold : all holds mustRunRows ≡ true
+unfolding holds mustRunRows programOutput refusalLine plannerResult planSheet fittingBook sizeRules
+    readBook readLoads headerRules loadRules someExceeds standingPairs mustRun optionStart standingPower first
+    isDigit digitValue digit valueFrom field digits signed unsigned lineLength
+    slotsOf plan bestAdmitted cells trials reachedCount sheetBytes firstLine slotLines sumsAndLimits slotLine numbersOf
+    quickResult quickSheet quickRules quickChoice takeIfFits sizeOf settingOf
+    sheetChoice sheetData readerResult chargeResult sheetCharge choiceCharge chargeOf rounded
+    accepted shown runningLoads numberAndLevel millLine millResult supplyView supplyResult orderResult sheetsOrder
+must-run-rows-hold = refl
+
 sheet-rows-hold : all holds sheetRows ≡ true
 unfolding holds sheetRows refusalLine
-    readBook readLoads headerRules loadRules someExceeds standingPairs optionStart standingPower first
+    readBook readLoads headerRules loadRules someExceeds standingPairs mustRun optionStart standingPower first
     isDigit digitValue digit valueFrom field digits signed unsigned lineLength
     sheetBytes firstLine slotLines sumsAndLimits slotLine numbersOf sheetChoice
     chargeResult sheetCharge choiceCharge chargeOf rounded
@@ -389,7 +464,10 @@ unfolding holds sheetRows refusalLine
     orderResult sheetsOrder loadsOrder starting runningMask andNot startCount wrongNames someBlocked left ready startNext startedAfter startOrder ones onesIn
 sheet-rows-hold = refl
 
-pub table-holds : all holds (planRows ++ standingRows ++ sheetRows) ≡ true
+pub table-holds : all holds (planRows ++ standingRows ++ mustRunRows ++ sheetRows) ≡ true
 table-holds =
-    all-join holds (planRows ++ standingRows) sheetRows
-    ∙ ap₂ _&&_ (all-join holds planRows standingRows ∙ ap₂ _&&_ plan-rows-hold standing-rows-hold) sheet-rows-hold
+    joined (planRows ++ standingRows ++ mustRunRows) sheetRows
+    (joined (planRows ++ standingRows) mustRunRows (joined planRows standingRows plan-rows-hold standing-rows-hold) must-run-rows-hold) sheet-rows-hold
+  where
+    joined : (xs ys : List Row) → all holds xs ≡ true → all holds ys ≡ true → all holds (xs ++ ys) ≡ true
+    joined xs ys e f = all-join holds xs ys ∙ ap₂ _&&_ e f

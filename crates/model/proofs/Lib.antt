@@ -19,6 +19,7 @@ pub mod TableLaws
 pub mod LoopLaws
 pub mod RowLaws
 pub mod ValidLaws
+pub mod MustRunLaws
 pub mod SheetLaws
 pub mod CodeLaws
 pub mod QuickLaws

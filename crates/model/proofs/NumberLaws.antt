@@ -27,7 +27,7 @@ numbered-at i [] h k l = absurd (omega arith)
 numbered-at i (v ∷ vs) h zero l = omega (arith, h .0)
 numbered-at i (v ∷ vs) h (suc k) l = suc-across i k ∙ numbered-at (suc i) vs (h .1) k (le-of-suc-le-suc l)
 
-number-from : (i : ℕ) (vs : Settings) (v : Setting) → Numbered i vs → Mem v vs → (i ≤ v .number) × (v .number < i + length vs)
+pub number-from : (i : ℕ) (vs : Settings) (v : Setting) → Numbered i vs → Mem v vs → (i ≤ v .number) × (v .number < i + length vs)
 number-from i [] v h m = absurd m
 number-from i (u ∷ vs) v h (inl e) = (omega (arith, h .0, ap (λ (x : Setting). x .number) e), omega (arith, h .0, ap (λ (x : Setting). x .number) e))
 number-from i (u ∷ vs) v h (inr m) =
@@ -94,6 +94,21 @@ pub setting-small : (vs : Settings) → Every SettingSmall vs → (c : ℕ) → 
 setting-small = every-of SettingSmall no-setting-small
 
 -- ---- a load's numbers
+
+pub numbered-least : (i : ℕ) (vs : Settings) → Numbered i vs → 0 < length vs → leastOf vs ≡ i
+numbered-least i [] n h = absurd (omega arith)
+numbered-least i (v ∷ vs) n h = n .0
+
+-- numbers from 0 or 1 up to 3 at most are a load's
+pub labelled-from : (i : ℕ) (vs : Settings) → Numbered i vs → i ≤ 1 → 0 < length vs → 1 < i + length vs → i + length vs ≤ 4 → Labelled vs
+labelled-from i vs n low here several few =
+    let e : leastOf vs ≡ i = numbered-least i vs n here in
+    record {
+      numbered = subst (λ j. Numbered j vs) (sym e) n;
+      least = omega arith;
+      several = omega arith;
+      few = omega arith;
+    }
 
 module _ (vs : Settings) (h : Labelled vs) where
   pub at-place : (k : ℕ) → k < length vs → settingOf vs (leastOf vs + k) ≡ getD vs k noSetting

@@ -1,16 +1,16 @@
 -- Books whose load lines are all of kind `02`: standing draws nothing, all standing keeps the limits, and there is a sheet, as document 01 has it.
 -- Assumes nothing.
 use mathlib.Core.Path.{_≡_, refl, sym, ap, ap₂, _∙_, subst}
-use mathlib.Core.Bool.{cond}
+use mathlib.Core.Bool.{cond, not}
 use mathlib.Core.List.{List, [], _∷_, map}
 use Prim.Native.Nat.{ℕ, zero, suc, _+_, _*_}
 use native.Mathlib.Omega.{arith}
 use lib.Dec.{T, leb, eqb, ltb, le→leb}
 use borrow.Author.Tests.{le-ltb}
-use Rattle.model.specs.Lists.{Every, upto}
+use Rattle.model.specs.Lists.{Every, upto, keepIf}
 use Rattle.model.specs.Frames.{field, lineOf, afterLine}
 use Rattle.model.specs.Refusals.{done}
-use Rattle.model.specs.Book.{noPower, Settings, Problem, slotCount, loadCount, standingPairs, powerAt, standingPower, settings, readLoads}
+use Rattle.model.specs.Book.{noPower, Settings, Problem, slotCount, loadCount, standingPairs, mustRun, powerAt, options, standingPower, standing, settings, readLoads}
 use Rattle.model.specs.Choice.{powerIn, sumIn, plus, square, apparentSquared, firstSetting}
 use Rattle.model.specs.Grid.{Slot, slotsOf, keepsLimits}
 use Rattle.model.specs.Calls.{plannerResult}
@@ -30,13 +30,21 @@ Plain (suc left) bytes = (field (lineOf bytes) 0 2 ≡ 2) × Plain left (afterLi
 abbrev Still : Settings → Type 0
 Still vs = (slot : ℕ) → powerIn slot (firstSetting vs) ≡ noPower
 
-still-line : (t : ℕ) (line : List ℕ) → field line 0 2 ≡ 2 → Still (settings t line)
+-- its load may stand
+plain-settings : (t : ℕ) (line : List ℕ) → field line 0 2 ≡ 2 → settings t line ≡ standing t line ∷ options t line
+unfolding mustRun
+plain-settings t line e = ap (λ k. keepIf (not (eqb k 7)) (standing t line) (options t line)) e
+
+still-standing : (t : ℕ) (line : List ℕ) → field line 0 2 ≡ 2 → Still (standing t line ∷ options t line)
 unfolding standingPower standingPairs
-still-line t line e =
+still-standing t line e =
     every-getD (λ x. x ≡ noPower) (map (standingPower t line) (upto t)) noPower refl
     (every-image (λ x. x ≡ noPower) (standingPower t line) (upto t)
     (λ s. ap (λ k. cond (ltb s (cond (eqb k 6) t 0)) (powerAt line (4 + 8 * s)) noPower) e
     ∙ ap (λ b. cond b (powerAt line (4 + 8 * s)) noPower) (le-ltb s 0 (omega arith))))
+
+still-line : (t : ℕ) (line : List ℕ) → field line 0 2 ≡ 2 → Still (settings t line)
+still-line t line e = subst Still (sym (plain-settings t line e)) (still-standing t line e)
 
 still-loads : (t left number : ℕ) (bytes : List ℕ) (loads : List Settings) → readLoads t left number bytes ≡ done loads → Plain left bytes → Every Still loads
 still-loads t zero number bytes loads e p = subst (Every Still) (loads-none t number bytes loads e) tt
@@ -55,7 +63,7 @@ still-keeps loads h (s ∷ slots) =
     (subst (λ x. T (leb (apparentSquared x) (square (s .limit)))) (sym (still-sum loads h (s .place))) (le→leb 0 (square (s .limit)) (omega arith)))
     (still-keeps loads h slots)
 
--- WITHOUT `06` LINES there is a sheet wherever none of 1 to 12 applies
+-- WITH `02` LINES ONLY there is a sheet wherever none of 1 to 12 applies
 pub plain-planned : (book : List ℕ) (words room : ℕ) (b : Problem) → Plain (loadCount (lineOf book)) (afterLine book) → Past12 book words room b
     → answerOf (plannerResult book words room) .number ≡ 0
 plain-planned book words room b p h =

@@ -1,5 +1,5 @@
--- When the planner gives a sheet, and when refusal 17, in both directions; that no choice keeps the limits where it gives 17, that there is a sheet where all
--- standing keeps them, and that the quick planner gives 17 where the planner does.
+-- When the planner gives a sheet, and when refusal 17, in both directions; that no choice keeps the limits where it gives 17, that there is a sheet where the
+-- quick planner's start keeps them, and that the quick planner gives 17 where the planner does.
 -- Assumes nothing.
 use mathlib.Core.Path.{_≡_, refl, sym, ap, _∙_, subst}
 use mathlib.Core.Bool.{Bool, true, false}
@@ -148,15 +148,15 @@ none-keeps book words room e =
     let x = answered book words room .no-plan-only e in
     (x .0, x .1 .reads, λ c m k. x .2 (keeps-some (x .0) c m k))
 
--- ---- all standing
+-- ---- the quick planner's start: what must run at option 1, and all others standing
 
--- where all standing keeps the limits there is a sheet, once none of 1 to 12 applies
+-- where it keeps the limits there is a sheet, once none of 1 to 12 applies
 pub firsts-planned : (book : List ℕ) (words room : ℕ) (b : Problem) → Past12 book words room b → T (keepsLimits (slotsOf b) (firstSettings b))
     → answerOf (plannerResult book words room) .number ≡ 0
 firsts-planned book words room b h k =
     answered book words room .sheet b h (keeps-some b (firstSettings b) (firsts-chosen b (book-valid book b (h .reads))) k)
 
--- where no choice is admitted all standing breaks a limit
+-- where no choice is admitted it breaks a limit
 firsts-over : (b : Problem) → ValidBook b → (SomeAdmitted b → ⊥) → keepsLimits (slotsOf b) (firstSettings b) ≡ false
 firsts-over b valid n = go (keepsLimits (slotsOf b) (firstSettings b)) refl
   where

@@ -1,7 +1,7 @@
 -- What a book that was read is known to have: its counts and sizes, and |Q| ≤ P in every setting; and that no refusal of the reader has a number above 8.
 -- Assumes nothing.
 use mathlib.Core.Path.{_≡_, refl, sym, ap, _∙_, subst}
-use mathlib.Core.Bool.{Bool, false, true, cond, _&&_}
+use mathlib.Core.Bool.{Bool, false, true, cond, not, _&&_}
 use mathlib.Core.List.{List, [], _∷_, map}
 use Prim.Native.Nat.{ℕ, zero, suc, _+_, _*_, _<_, _≤_}
 use native.Mathlib.Omega.{arith}
@@ -10,16 +10,17 @@ use lib.IntN.{natAbs}
 use lib.ListN.{length, getD}
 use borrow.Author.Tests.{ltb-false, not-false}
 use Rattle.model.specs.declared.Finding.the-variants.{Passed}
-use Rattle.model.specs.Lists.{within, uptoFrom, upto, any, Every}
+use Rattle.model.specs.Lists.{within, uptoFrom, upto, keepIf, any, Every}
 use Rattle.model.specs.Bounds.{mostLoads, mostFineness}
 use Rattle.model.specs.Frames.{field, lineOf, afterLine}
 use Rattle.model.specs.Refusals.{Result, done, first, andThen}
-use Rattle.model.specs.Book.{Power, noPower, Setting, Settings, Problem, slotCount, loadCount, finenessIn, problem, optionCount, standingPairs, optionStart, powerAt, optionOn, options, standingPower, settings, lineRule, headerRules, reactiveExceeds, someExceeds, loadRules, endRules, readLoads, readBook}
+use Rattle.model.specs.Book.{Power, noPower, Setting, Settings, Problem, slotCount, loadCount, finenessIn, problem, optionCount, standingPairs, mustRun, optionStart, powerAt, optionOn, options, standingPower, standing, settings, lineRule, headerRules, reactiveExceeds, someExceeds, loadRules, endRules, readLoads, readBook}
 use Rattle.model.specs.Valid.{SettingKept, Numbered, Labelled, SettingSmall, ValidLoads, ValidBook}
-use Rattle.model.proofs.ListLaws.{both-true, within-is, every-imp, every-image, every-getD, any-false}
+use Rattle.model.proofs.ListLaws.{both-true, within-is, every-if, every-imp, every-image, every-getD, any-false}
 use Rattle.model.proofs.UptoLaws.{length-upto}
 use Rattle.model.proofs.FrameLaws.{field-below, signed-small}
 use Rattle.model.proofs.RefusalLaws.{done-same, checked-done, then-done, NoneApplies, first-passed, RulesMost, NumberMost, checked-most, then-most}
+use Rattle.model.proofs.NumberLaws.{labelled-from}
 
 -- ---- the settings that a line gives
 
@@ -41,23 +42,28 @@ numbered-options f h i (suc n) = (h i, numbered-options f h (suc i) n)
 pub options-numbered : (t : ℕ) (line : List ℕ) → Numbered 1 (options t line)
 options-numbered t line = numbered-options (optionOn t line) (λ j. refl) 0 (optionCount line)
 
+pub options-length : (t : ℕ) (line : List ℕ) → length (options t line) ≡ optionCount line
+options-length t line = length-upto (optionOn t line) (optionCount line)
+
 labelled-settings : (t : ℕ) (line : List ℕ) → within 1 3 (optionCount line) ≡ true → Labelled (settings t line)
 labelled-settings t line e =
     let n : (1 ≤ optionCount line) × (optionCount line ≤ 3) = within-is 1 3 (optionCount line) e in
-    let l : length (options t line) ≡ optionCount line = length-upto (optionOn t line) (optionCount line) in
-    record {
-      numbered = (refl, options-numbered t line);
-      least = omega arith;
-      several = omega (arith, n .0);
-      few = omega (arith, n .1);
-    }
+    go (mustRun line) (omega (arith, n .0, options-length t line)) (omega (arith, n .1, options-length t line))
+  where
+    go : (b : Bool) → 1 ≤ length (options t line) → length (options t line) ≤ 3 → Labelled (keepIf (not b) (standing t line) (options t line))
+    go true some few = labelled-from 1 (options t line) (options-numbered t line) (omega arith) (omega arith) (omega arith) (omega arith)
+    go false some few =
+        labelled-from 0 (standing t line ∷ options t line) (refl, options-numbered t line) (omega arith) (omega arith) (omega arith) (omega arith)
+
+-- a property of standing and of the options
+every-setting : (P : Setting → Type 0) (t : ℕ) (line : List ℕ) → P (standing t line) → ((j : ℕ) → P (optionOn t line j)) → Every P (settings t line)
+every-setting P t line a h =
+    every-if P (not (mustRun line)) (standing t line) (options t line) a (every-image P (optionOn t line) (upto (optionCount line)) h)
 
 pub sized-settings : (t : ℕ) (line : List ℕ) → Every (λ v. length (v .powers) ≡ t) (settings t line)
-sized-settings t line = (
-  length-upto (standingPower t line) t,
-  every-image (λ v. length (v .powers) ≡ t) (optionOn t line) (upto (optionCount line))
-      (λ j. length-upto (λ s. powerAt line (optionStart t (standingPairs t line) j + 4 + 8 * s)) t),
-)
+sized-settings t line =
+    every-setting (λ v. length (v .powers) ≡ t) t line (length-upto (standingPower t line) t)
+    (λ j. length-upto (λ s. powerAt line (optionStart t (standingPairs t line) j + 4 + 8 * s)) t)
 
 -- a power on a line is small, and so is none
 record Small (x : Power) : Type 0 where
@@ -85,12 +91,10 @@ small-standing t line s = go (ltb s (standingPairs t line))
     go false = small-none
 
 pub small-settings : (t : ℕ) (line : List ℕ) → Every SettingSmall (settings t line)
-small-settings t line = (
-  small-setting 0 0 (standingPower t line) t (omega arith) (small-standing t line),
-  every-image SettingSmall (optionOn t line) (upto (optionCount line))
-      (λ j. let at = optionStart t (standingPairs t line) j in
-      small-setting (suc j) (field line at 4) (λ s. powerAt line (at + 4 + 8 * s)) t (field-below line at 4) (λ s. small-at line (at + 4 + 8 * s))),
-)
+small-settings t line =
+    every-setting SettingSmall t line (small-setting 0 0 (standingPower t line) t (omega arith) (small-standing t line))
+    (λ j. let at = optionStart t (standingPairs t line) j in
+    small-setting (suc j) (field line at 4) (λ s. powerAt line (at + 4 + 8 * s)) t (field-below line at 4) (λ s. small-at line (at + 4 + 8 * s)))
 
 -- ---- the loads
 

@@ -1,4 +1,4 @@
--- The book, what it says, and how it is read, with refusals 1 to 8 (document 01, "The book" and "Refusals by number"; document 02, M-104).
+-- The book, what it says, and how it is read, with refusals 1 to 8 (document 01, "The book" and "Refusals by number"; document 02, M-104 and M-105).
 use Prim.Native.Nat.{ℕ, zero, suc, _+_, _*_}
 use mathlib.Core.Bool.{Bool, cond, not, _&&_, _||_}
 use mathlib.Core.List.{List, [], _∷_, map}
@@ -6,7 +6,7 @@ use lib.Dec.{ltb, eqb}
 use lib.IntN.{ℤ, pos, natAbs}
 use lib.ListN.{length}
 use Rattle.model.specs.declared.Refusal.the-variants.{Unterminated, NotHex, WrongKind, SlotsOrOptionsOutOfRange, WrongLength, LoadsOrFinenessOutOfRange, ReactiveExceedsActive, TrailingBytes}
-use Rattle.model.specs.Lists.{within, upto, all, any, isEmpty}
+use Rattle.model.specs.Lists.{within, upto, keepIf, all, any, isEmpty}
 use Rattle.model.specs.Bounds.{mostSlots, mostLoads, mostFineness, mostOptions}
 use Rattle.model.specs.Frames.{isDigit, field, signed, hasLine, lineOf, afterLine}
 use Rattle.model.specs.Refusals.{Result, done, Rule, _⇒_, first, checked, andThen}
@@ -65,18 +65,21 @@ problem line loads =
 
 -- ---- a load line: "kind `02`, o (2 digits), then o options. An option is a worth (4), then for each slot P (4) and Q (4, two's complement
 -- of 16 bits). A line has 4 + o × (4 + 8T) digits." Document 02, M-104: "A load line of kind `06` carries after o one P and Q per slot for
--- standing, then the options, so it has 4 + 8T + o × (4 + 8T) digits."
+-- standing, then the options, so it has 4 + 8T + o × (4 + 8T) digits." M-105: "A line of kind `07` is laid out as `02`, but its load has no choice 0."
 
 abbrev pub loadKinds : List ℕ
-loadKinds = 2 ∷ 6 ∷ []
+loadKinds = 2 ∷ 6 ∷ 7 ∷ []
 
 abbrev pub optionCount : List ℕ → ℕ
 optionCount line = field line 2 2
 
--- how many pairs of P and Q for standing a line carries, in a book of t slots: one for each slot where its kind is `06`, else none. Past
--- refusal 3 nothing else asks for the kind.
+-- how many pairs of P and Q for standing a line carries, in a book of t slots: one for each slot where its kind is `06`, else none
 unfoldable pub standingPairs : ℕ → List ℕ → ℕ
 standingPairs t line = cond (eqb (field line 0 2) 6) t 0
+
+-- M-105: the load of a line of kind `07` must run. Past refusal 3 only this and `standingPairs` ask for the kind.
+unfoldable pub mustRun : List ℕ → Bool
+mustRun line = eqb (field line 0 2) 7
 
 -- where option j + 1 starts, on a line with so many pairs for standing
 unfoldable pub optionStart : ℕ → ℕ → ℕ → ℕ
@@ -107,9 +110,10 @@ standingPower t line s = cond (ltb s (standingPairs t line)) (powerAt line (4 + 
 abbrev pub standing : ℕ → List ℕ → Setting
 standing t line = record { number = 0; worth = 0; powers = map (standingPower t line) (upto t) }
 
--- "a number c from 0 to its o": standing, then the options
+-- "a number c from 0 to its o": standing, then the options; M-105: a load that must run "has no choice 0" (what that says of choices: proofs/MustRunLaws,
+-- `choices-run`)
 abbrev pub settings : ℕ → List ℕ → Settings
-settings t line = standing t line ∷ options t line
+settings t line = keepIf (not (mustRun line)) (standing t line) (options t line)
 
 -- ---- reading: "Lines are read in order, and on each line 1 to 7 are tried in this order, as far as they concern it."
 

@@ -1,4 +1,4 @@
--- Choices, their worth, code and true sums (document 01, "Choice, sums and grid"; document 02, M-104).
+-- Choices, their worth, code and true sums (document 01, "Choice, sums and grid"; document 02, M-104 and M-105).
 use Prim.Native.Nat.{ℕ, zero, suc, _+_, _*_, _/_, _%_}
 use mathlib.Core.Bool.{Bool, cond, not}
 use mathlib.Core.List.{List, [], _∷_, _++_, map}
@@ -9,7 +9,7 @@ use lib.ListN.{getD}
 use Rattle.model.specs.Lists.{Mem}
 use Rattle.model.specs.Book.{Power, noPower, Setting, Settings}
 
--- "A choice gives each load k (1 to N, in book order) a number c": here the setting of that number
+-- "A choice gives each load k (1 to N, in book order) a number c": here the setting of that number, one that the load offers
 abbrev pub Choice : Type 0
 Choice = List Setting
 
@@ -76,7 +76,7 @@ abbrev pub firstSetting : Settings → Setting
 firstSetting [] = noSetting
 firstSetting (v ∷ vs) = v
 
--- the least number that a load's settings have, as they go by ascending number
+-- the least number that a load's settings have, as they go by ascending number: 0, or 1 for a load that must run
 abbrev pub leastOf : Settings → ℕ
 leastOf vs = firstSetting vs .number
 

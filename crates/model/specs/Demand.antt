@@ -1,4 +1,4 @@
--- The buyer's demand 3, with M-104 and M-106 of document 02: when the planner gives a sheet, and what holds of the book's bytes and the bytes of the
+-- The buyer's demand 3, with M-104, M-105 and M-106 of document 02: when the planner gives a sheet, and what holds of the book's bytes and the bytes of the
 -- sheet buffer after a call that gave one.
 use Prim.Native.Nat.{ℕ, _+_, _*_, _<_, _≤_}
 use mathlib.Core.Path.{_≡_}
@@ -8,6 +8,7 @@ use Rattle.model.specs.Bounds.{mostCells}
 use Rattle.model.specs.Frames.{field}
 use Rattle.model.specs.Refusals.{done}
 use Rattle.model.specs.Book.{Problem, readBook}
+use Rattle.model.specs.MustRun.{RunsAll}
 use Rattle.model.specs.Grid.{slotsOf, Admitted}
 use Rattle.model.specs.Trials.{cells, neededWords, trials}
 use Rattle.model.specs.Sheet.{sheetLength}
@@ -23,14 +24,14 @@ pub record Past12 (book : List ℕ) (words room : ℕ) (b : Problem) : Type 0 wh
   pub long : sheetLength b ≤ room
   pub enough : trials b ≤ b .budget
 
--- some choice of the book is admitted
+-- some choice of the book is admitted; the choices of a book run every load that must run (MustRun, `ChoicesRun`)
 pub record SomeAdmitted (b : Problem) : Type 0 where
   pub choice : Choice
   pub of-book : IsChoice (b .loads) choice
   pub admissible : Admitted (slotsOf b) choice
 
--- the number that the planner answers is 0 exactly where no refusal applies, and 17 (M-104) exactly where none of 1 to 12 does and "no choice is
--- admitted"
+-- the number that the planner answers is 0 exactly where no refusal applies, and 17 exactly where none of 1 to 12 does and "no choice is admitted" (M-104);
+-- M-105: "exactly when no refusal before it applies and none of those is admitted", of "the choices that run every such load"
 pub record Answered (book : List ℕ) (words room number : ℕ) : Type 0 where
   pub sheet : (b : Problem) → Past12 book words room b → SomeAdmitted b → number ≡ 0
   pub sheet-only : number ≡ 0 → (b : Problem) × Past12 book words room b × SomeAdmitted b
@@ -73,7 +74,10 @@ pub record Demand3 (book sheet : List ℕ) : Type 0 where
   pub reads : readBook book ≡ done b
   pub choice : Choice
   pub on-sheet : OnSheet b sheet choice
-  -- "the sheet's choice is worth at least as much as every other choice that keeps P² + Q² ≤ S² in every slot"; M-104: "among choices summed this way"
+  -- it runs every load that must run
+  pub runs : RunsAll book choice
+  -- "the sheet's choice is worth at least as much as every other choice that keeps P² + Q² ≤ S² in every slot"; M-104: "among choices summed this way";
+  -- M-105: "among the choices that run every such load"
   pub worth : (other : Choice) → IsChoice (b .loads) other → ((slot : ℕ) → slot < T b → apparentSquaredIn slot other ≤ square (S b slot))
       → worthOf other ≤ worthOf choice
   -- the next three have no condition on other choices: "whether or not another choice keeps the limits"

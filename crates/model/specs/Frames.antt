@@ -58,3 +58,8 @@ lineOf bytes = take (lineLength bytes) bytes
 
 abbrev pub afterLine : List ℕ → List ℕ
 afterLine bytes = drop (suc (lineLength bytes)) bytes
+
+-- the line after k others, without its LF
+abbrev pub lineAt : ℕ → List ℕ → List ℕ
+lineAt zero bytes = lineOf bytes
+lineAt (suc k) bytes = lineAt k (afterLine bytes)

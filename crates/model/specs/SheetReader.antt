@@ -1,4 +1,4 @@
--- The sheet reader (document 01, "Quick planner and sheet reader").
+-- The sheet reader (document 01, "Quick planner and sheet reader"; document 02, M-105).
 use Prim.Native.Nat.{ℕ, suc, _+_, _*_, _^_, _<_}
 use mathlib.Core.Path.{_≡_}
 use mathlib.Core.Bool.{not}
@@ -34,7 +34,8 @@ consBoth none c = none
 consBoth (some v) none = none
 consBoth (some v) (some c) = some (v ∷ c)
 
--- the choice whose numbers stand on the first line, from load k + 1 on
+-- the choice whose numbers stand on the first line, from load k + 1 on; none where a load does not offer its number, so that "a sheet with such a load standing"
+-- is foreign (M-105)
 abbrev pub choiceFrom : List ℕ → ℕ → List Settings → Option Choice
 choiceFrom sheet k [] = some []
 choiceFrom sheet k (vs ∷ loads) = consBoth (settingNumbered (field sheet (18 + 2 * k) 2) vs) (choiceFrom sheet (suc k) loads)

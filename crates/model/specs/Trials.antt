@@ -1,4 +1,4 @@
--- Trials and the work area (document 01, "Trials and the work area"; document 02, M-104).
+-- Trials and the work area (document 01, "Trials and the work area"; document 02, M-104 and M-105).
 use Prim.Native.Nat.{ℕ, _+_, _*_, _/_}
 use mathlib.Core.Path.{_≡_}
 use mathlib.Core.Bool.{Bool, false, _&&_}
@@ -54,11 +54,12 @@ unfoldable pub reachedCount : List Slot → List Settings → ℕ
 reachedCount slots loads = length (distinct (sameLists samePair) (map (gridsOf slots) (keep (inRange slots) (choices loads))))
 
 -- "H(k)", of "loads 1 to k", "summed over those loads alone"; the steps and R are the book's; "H(0) = 1", as no loads have one choice, with a = 0; a later
--- one can be 0 where standing draws (document 02, M-104)
+-- one can be 0 where standing draws (document 02, M-104) or loads must run (M-105)
 abbrev pub H : List Slot → List Settings → ℕ → ℕ
 H slots loads k = reachedCount slots (take k loads)
 
--- "the sum over k of H(k-1) × (o of load k, plus 1)", for the first n loads: a load has o + 1 settings
+-- "the sum over k of H(k-1) × (o of load k, plus 1)", for the first n loads: a load offers o + 1 settings; M-105: where it must run, "Its factor in the trials
+-- is o, not o + 1", as it offers o
 abbrev pub trialsUpto : List Slot → List Settings → ℕ → ℕ
 trialsUpto slots loads n = sumBelow n (λ k. H slots loads k * length (getD loads k []))
 

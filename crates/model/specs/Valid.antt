@@ -19,7 +19,7 @@ abbrev pub Numbered : ℕ → Settings → Type 0
 Numbered i [] = Unit {0}
 Numbered i (v ∷ vs) = (v .number ≡ i) × Numbered (suc i) vs
 
--- a load's numbers go from its least, which is 0 or 1, up to o, 1 to 3
+-- a load's numbers go from its least, which is 0, or 1 where it must run, up to o, 1 to 3
 pub record Labelled (vs : Settings) : Type 0 where
   pub numbered : Numbered (leastOf vs) vs
   pub least : leastOf vs ≤ 1

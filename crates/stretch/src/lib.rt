@@ -18,7 +18,7 @@ pub struct SettingMove {
     pub active: [usize; Book::SLOTS],
 }
 
-// What the settings of a load do, by ascending number; standing is the first of them.
+// What the settings of a load do, by ascending number.
 pub struct LoadMoves {
     pub count: usize,
     pub moves: [SettingMove; Load::SETTINGS],

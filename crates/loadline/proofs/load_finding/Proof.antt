@@ -102,6 +102,7 @@ some-exceeds-requires c κs =
     record {
       slots = c .before .before .before .before .before .before .before .before .before .before .before .before .pre;
       carried = c .before .before .standing-pairs .ensures;
+      some = rw (c .before .before .before .before .before .number .ensures) (in-range 1 3 (optionCount (a .line .now)) (few (c .before .before .before)) .0);
       options = rw (c .before .before .before .before .before .number .ensures) (in-range 1 3 (optionCount (a .line .now)) (few (c .before .before .before)) .1);
       stated = c .before .before .before .before .before .number .ensures;
       long = c .if4 .left ∙ c .before .option-start .ensures;

@@ -1,15 +1,16 @@
 -- `loadline::load_of` meets its contract. The invariant: the first k entries of both arrays are filled. Assumes nothing.
 use Prim.Native.Nat.{ℕ, _+_, _≤_, _-_}
-use mathlib.Core.Path.{_≡_, refl, sym, ap, subst}
+use mathlib.Core.Path.{_≡_, refl, sym, ap, subst, _∙_}
 use mathlib.Core.List.{map}
 use lib.ListN.{length, take, length-set}
 use Rattle.model.specs.Lists.{upto}
 use Rattle.model.specs.Book.{Settings, settings}
+use Rattle.model.specs.Choice.{leastOf}
 use Rattle.model.specs.Values.{raised, powerOf, loadValue}
 use Rattle.model.proofs.UptoLaws.{fill-more, fill-all}
 use Rattle.loadline.specs.declared.PowerValue.{PowerValue}
 use Rattle.loadline.specs.LoadLine.{LoadLine}
-use Rattle.loadline.proofs.LineLaws.{line-holds, length-settings}
+use Rattle.loadline.proofs.LineLaws.{line-holds, length-settings, least-settings}
 use borrow.Author.Needs.{needs}
 use native.Mathlib.Omega.{arith}
 use Rattle.loadline.proofs.load_of.Statement.{statement}
@@ -79,20 +80,31 @@ loop-again c =
       fill-more (reactive vs) (l .reactives) (l .k) _ (omega arith) (ap (λ (x : PowerValue). x .reactive) (c .power-of .ensures)) (l .inv .4),
     )
 
+least-number-requires : tie.Need-least-number-requires Inv-loop μ-loop
+least-number-requires c κs =
+    let s = c .before .before .before .before .before in
+    omega (arith, line-holds (s .args .slots) _ (s .args .count) (s .args .line .now) (s .pre))
+
 add-settings : tie.Need-add-settings Inv-loop μ-loop
 add-settings c = search needs
+
+sub-settings : tie.Need-sub-settings Inv-loop μ-loop
+sub-settings c =
+    let s = c .before .before .before .before .before .before in
+    omega (arith, c .least-number .ensures, s .pre .stated, length-settings (s .args .slots) (s .args .line .now))
 
 returns : tie.Need-returns Inv-loop μ-loop
 unfolding loadValue
 returns c =
-    let a = c .before .before .before .before .before .args in
-    let h = c .before .before .before .before .before .pre in
-    let l = c .before .loop in
+    let a = c .before .before .before .before .before .before .args in
+    let h = c .before .before .before .before .before .before .pre in
+    let l = c .before .before .loop in
     let vs = settings (a .slots) (a .line .now) in
-    let many : a .count + 1 ≡ length vs = omega (arith, length-settings (a .slots) (a .line .now)) in
+    let least-is : c .least-number .result ≡ leastOf vs = c .least-number .ensures ∙ sym (least-settings (a .slots) (a .line .now) (omega (arith, h .some))) in
+    let many : a .count + 1 - c .least-number .result ≡ length vs = omega (arith, c .least-number .ensures, length-settings (a .slots) (a .line .now)) in
     let actives-are : l .actives ≡ map (active vs) (upto 16) = fill-all (active vs) (l .actives) 16 (l .k) (l .inv .1) (omega arith) (omega arith) (l .inv .3) in
     let reactives-are : l .reactives ≡ map (reactive vs) (upto 16) = fill-all (reactive vs) (l .reactives) 16 (l .k) (l .inv .2) (omega arith) (omega arith) (l .inv .4) in
-    λ i. record { least = 0; settings = many i; worths = c .before .before .worths-of .ensures i; actives = actives-are i; reactives = reactives-are i }
+    λ i. record { least = least-is i; settings = many i; worths = c .before .before .before .worths-of .ensures i; actives = actives-are i; reactives = reactives-are i }
 
 pub load-of-spec : {M : Type 1} → statement M
 load-of-spec =
@@ -111,5 +123,7 @@ load-of-spec =
     add-k
     loop-less
     loop-again
+    least-number-requires
     add-settings
+    sub-settings
     returns)

@@ -26,7 +26,7 @@ no-move-requires : tie.Need-no-move-requires Inv-loop μ-loop
 no-move-requires c κs = search needs
 
 loop-holds : tie.Need-loop-holds Inv-loop μ-loop
-loop-holds c = (omega arith, load-few (c .before .args .load) (c .before .pre .0), refl, λ h l k e i j. absurd (omega arith))
+loop-holds c = (omega arith, omega (arith, load-few (c .before .args .load) (c .before .pre .0)), refl, λ h l k e i j. absurd (omega arith))
 
 add-move-of : tie.Need-add-move-of Inv-loop μ-loop
 add-move-of c = search needs
