@@ -13,15 +13,19 @@
  *
  * docs/HANDBOOK.md describes the book and the sheet field by field, what the
  * limits mean for a relay, how large a work area a book needs, what a price is,
- * which loads to name for an order, what each party learns from its view, and what
- * can be done where a book has no plan.
+ * which loads to name for an order, what each party learns from its view, which
+ * loads draw while standing or must run, and what can be done where a book has no
+ * plan.
  *
- * THE BOOK  A header line of kind 01, then a line for each load: of kind 02, or of
- * kind 06 for a load that draws while it stands. A 06 line has, after its number of
- * levels, a P and a Q for each slot, its standing pairs, and then the levels: in all
- * 4 + 8T + o x (4 + 8T) digits, 8T more than a 02 line. Every sum of P and Q counts
- * the standing pair of a load that stands; on a 02 line it is (0, 0). A load that
- * stands and draws is standing all the same: its level and its worth are 0.
+ * THE BOOK  A header line of kind 01, then a line for each load: of kind 02, of kind
+ * 06 for a load that draws while it stands, or of kind 07 for a load that must run.
+ * A 06 line has, after its number of levels, a P and a Q for each slot, its standing
+ * pairs, and then the levels: in all 4 + 8T + o x (4 + 8T) digits, 8T more than a 02
+ * or a 07 line. Every sum of P and Q counts the standing pair of a load that stands;
+ * on a 02 line it is (0, 0). A load that stands and draws is standing all the same:
+ * its level and its worth are 0. A 07 line is laid out as a 02 line, but its load
+ * never stands: every choice gives it one of its levels, 1 to o, and its factor in
+ * the trials is o, not o + 1.
  *
  * LINKING  Name target/staticlib/libjadeshuttle.a after your own files. It calls
  * memcpy and memset of the C library, and nothing else.
@@ -60,8 +64,8 @@
  * `order`, and `view`. What is only read may be shared.
  *
  * STACK, HEAP  Nothing is allocated. Stack used by a call, as measured on x86-64
- * Linux: planner up to 79 KiB, quick planner up to 55 KiB, sheet reader, charge,
- * order and views up to 34 KiB. Leave 128 KiB of stack for a call.
+ * Linux: planner up to 80 KiB, quick planner up to 57 KiB, sheet reader, charge,
+ * order and views up to 35 KiB. Leave 128 KiB of stack for a call.
  *
  * ERRORS  A call always returns. It prints nothing, and sets no errno.
  */
@@ -116,7 +120,7 @@ enum jadeshuttle_number {
     JADESHUTTLE_WRONG_NAMES = 15,       /* names: not N of them, or one is neither 0 nor a higher load's number */
     JADESHUTTLE_NAMED_LOAD_STANDS = 16, /* blocked: a load that starts names one that stands in the new sheet */
     /* The planner and the quick planner. */
-    JADESHUTTLE_NO_PLAN = 17 /* no plan: no choice is admitted; quick planner: all standing breaks a limit */
+    JADESHUTTLE_NO_PLAN = 17 /* no plan: no choice is admitted; quick planner: its start breaks a limit */
 };
 
 /* What the planners and the views answer. With a refusal, bytes, worth and trials are 0. */
@@ -161,11 +165,12 @@ typedef struct jadeshuttle_order_answer {
 
 /*
  * The planner. Writes the sheet of the plan: the admitted choice of greatest
- * worth, and among equals the one with the smallest code. Gives 1 to 12, and then
- * 17. There is a sheet exactly where no refusal applies, and 17 exactly where none
- * of 1 to 12 applies and no choice is admitted. Where 17 is given, no choice keeps
- * P*P + Q*Q <= S*S in every slot. Where all standing keeps the limits, as it does in
- * every book without 06 lines, 17 is not given.
+ * worth, and among equals the one with the smallest code. Every choice runs the
+ * loads that must run. Gives 1 to 12, and then 17. There is a sheet exactly where no
+ * refusal applies, and 17 exactly where none of 1 to 12 applies and no choice is
+ * admitted. Where 17 is given, no choice keeps P*P + Q*Q <= S*S in every slot. Where
+ * the loads that must run, at level 1, keep the limits with all others standing, 17
+ * is not given; in a book with 02 lines only, that is always so.
  *
  * Of every sheet it gives, with P and Q the true sums in a slot and S its limit:
  *   - no choice that keeps P*P + Q*Q <= S*S in every slot is worth more;
@@ -173,7 +178,7 @@ typedef struct jadeshuttle_order_answer {
  *     apparent power is at most (1 + 3/(2*d)) * S;
  *   - P*P + Q*Q <= S*S in every slot where S < 2*N*d.
  * The sums count standing pairs, in other choices too. The last two hold whether or
- * not all standing, or any other choice, keeps the limits.
+ * not any other choice keeps the limits.
  *
  * 4 x cells words of work area are needed. The budget in the book bounds the
  * number of trials, not the time. The time depends on the trials and on the
@@ -187,26 +192,28 @@ jadeshuttle_answer jadeshuttle_plan(const uint8_t *book, size_t book_len,
                                     uint8_t *sheet, size_t sheet_len);
 
 /*
- * The quick planner. Begins with all loads standing, and takes level 1 of a load or
- * leaves it so: smallest P*P + Q*Q of level 1 (summed over the slots) first, each
- * load once. Level 1 replaces the standing pair. A load once passed over is never
- * tried again, even where it would fit later, once another has left its standing
- * pair. The sheet keeps P*P + Q*Q <= S*S in every slot, whatever d is, but may be
- * worth far less than the plan. It needs no work area and has no bound on cells or
- * trials.
+ * The quick planner. Its start has the loads that must run at level 1 and all others
+ * standing. Then it takes level 1 of a load or leaves it so: smallest P*P + Q*Q of
+ * level 1 (summed over the slots) first, each load once. Level 1 replaces the
+ * standing pair; a load that must run stays at level 1. A load once passed over is
+ * never tried again, even where it would fit later, once another has left its
+ * standing pair. The sheet keeps P*P + Q*Q <= S*S in every slot, whatever d is, but
+ * may be worth far less than the plan. It needs no work area and has no bound on
+ * cells or trials.
  *
- * Gives 1 to 8, 11, and then 17 where the true sums of all standing break a limit,
- * even where running some load would draw less. So it can give 17 where the planner
- * has a sheet. Where the planner gives 17, this call gives 17 too, for a buffer of
- * the same length.
+ * Gives 1 to 8, 11, and then 17 where the true sums of its start break a limit, even
+ * where another level, or running some load, would draw less. So it can give 17 where
+ * the planner has a sheet. Where the planner gives 17, this call gives 17 too, for a
+ * buffer of the same length.
  */
 jadeshuttle_answer jadeshuttle_quick(const uint8_t *book, size_t book_len,
                                      uint8_t *sheet, size_t sheet_len);
 
 /*
  * The sheet reader. Accepts a sheet whose bytes are exactly those that some choice
- * and some trials number give for this book; all `sheet_len` bytes count. It does
- * not judge whether the choice is good. Gives 1 to 8 for the book, and 13.
+ * and some trials number give for this book; all `sheet_len` bytes count. So a sheet
+ * on which a load stands that must run is foreign, here and to every call below. It
+ * does not judge whether the choice is good. Gives 1 to 8 for the book, and 13.
  */
 jadeshuttle_reading jadeshuttle_read_sheet(const uint8_t *book, size_t book_len,
                                            const uint8_t *sheet, size_t sheet_len);
@@ -231,7 +238,8 @@ jadeshuttle_charge_answer jadeshuttle_charge(const uint8_t *book, size_t book_le
  * for none. Writes the numbers of the loads that start, 1 to 24, a byte each, in
  * order: each time, of those left that name none, or whose named load runs in the
  * running sheet or has been started, the lowest number. A load that runs in both,
- * at whatever levels, neither starts nor stops. A load that draws while it stands is
+ * at whatever levels, neither starts nor stops. So no load that must run does, and a
+ * load that names one is never blocked by it. A load that draws while it stands is
  * standing.
  *
  * Of every order it gives:

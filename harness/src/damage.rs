@@ -12,6 +12,7 @@ pub fn fault(random: &mut Random, text: &mut Vec<u8>, refusal: usize) {
             b"0",
             b"0201\n",
             b"0601\n",
+            b"0701\n",
             b"\0",
             b"\n\n",
             b"\xFF\n",
@@ -44,7 +45,7 @@ fn put(text: &mut [u8], at: usize, digits: &[u8]) {
 
 /// Refusals 2, 3, 4, 5 and 7, on some line.
 fn damage_line(random: &mut Random, text: &mut Vec<u8>, refusal: usize) {
-    let slots = text.get(3).map_or(0, |digit| digit.wrapping_sub(b'0')) as usize;
+    let slots = slots(text);
     let mut lines = lines(text);
     if lines.is_empty() {
         return;
@@ -54,12 +55,17 @@ fn damage_line(random: &mut Random, text: &mut Vec<u8>, refusal: usize) {
     match refusal {
         2 => not_hex(random, line),
         3 if n == 0 => wrong_kind(random, line, &[b"01"]),
-        3 => wrong_kind(random, line, &[b"02", b"06"]),
+        3 => wrong_kind(random, line, &[b"02", b"06", b"07"]),
         4 => put(line, 2, random.pick(&[b"00", b"04", b"05", b"80", b"FF"])),
         5 => wrong_length(random, line, slots),
         _ => reactive_exceeds_active(random, line, slots),
     }
     *text = lines.concat();
+}
+
+/// The number of slots that the header states.
+fn slots(text: &[u8]) -> usize {
+    text.get(3).map_or(0, |digit| digit.wrapping_sub(b'0')) as usize
 }
 
 /// The lines, each with its LF.
@@ -94,15 +100,15 @@ fn wrong_kind(random: &mut Random, line: &mut Vec<u8>, due: &[&[u8; 2]]) {
     }
 }
 
-/// Digits too many or too few, also those of the pairs for standing, another number of slots or options, or the other kind of
-/// load line (misshapen).
+/// Digits too many or too few, also those of the pairs for standing, another number of slots or options, or a kind of load line
+/// of another length (misshapen).
 fn wrong_length(random: &mut Random, line: &mut Vec<u8>, slots: usize) {
     let (at, pairs) = (line.len() - 1, 8 * slots);
     match random.below(4) {
         0 => put(line, 2, random.pick(&[b"01", b"02", b"03", b"04"])),
         1 => drop(line.splice(at..at, vec![b'0'; random.pick(&[1, 2, 4, 8, 12, pairs])])),
         2 => drop(line.drain(at.saturating_sub(random.pick(&[1, 2, 4, 8, pairs]))..at)),
-        _ if draws_standing(line) => put(line, 0, b"02"),
+        _ if draws_standing(line) => put(line, 0, random.pick(&[b"02", b"07"])),
         _ => put(line, 0, b"06"),
     }
 }
@@ -194,6 +200,27 @@ pub fn reorder(random: &mut Random, text: &mut Vec<u8>) {
         _ => drop(lines.remove(i)),
     }
     *text = lines.concat();
+}
+
+/// The book with each kind of load lines, and two that are none, in turn on one of its load lines; as long as the line was, and
+/// with the pairs for standing put in or taken out.
+pub fn of_other_kinds(random: &mut Random, text: &[u8]) -> Vec<Vec<u8>> {
+    let (lines, pairs) = (lines(text), 8 * slots(text));
+    let n = 1 + random.below(lines.len() - 1);
+    let mut other = lines[n].clone();
+    match draws_standing(&other) {
+        true => drop(other.drain(4..4 + pairs)),
+        false => drop(other.splice(4..4, vec![b'0'; pairs])),
+    }
+    let mut texts = Vec::new();
+    for line in [&lines[n], &other] {
+        for kind in [b"01", b"02", b"06", b"07", b"08"] {
+            let mut lines = lines.clone();
+            lines[n] = [kind, &line[2..]].concat();
+            texts.push(lines.concat());
+        }
+    }
+    texts
 }
 
 /// A digit mostly, or an LF: a byte that a reader going too far would take.

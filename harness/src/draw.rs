@@ -139,11 +139,13 @@ struct Spread {
     reactive: usize,
     /// Of eight loads, so many draw standing (kind `06`).
     standing_loads: usize,
-    /// How much those draw.
+    /// Of eight loads, so many must run (kind `07`).
+    must_run_loads: usize,
+    /// How much the former draw standing, and the latter at one of their levels.
     standing: Heat,
 }
 
-/// What a load draws standing in a slot, at most.
+/// What a load draws in a slot, at most, standing or where it must run.
 #[derive(Clone, Copy)]
 enum Heat {
     /// So many eighths of its share of the limit.
@@ -161,6 +163,7 @@ impl Spread {
             power: random.pick(&[0, 1, 2, 2, 2, 3, 3, 3, 4, 5, 6]),
             reactive: random.below(7),
             standing_loads: random.pick(&[0, 0, 0, 1, 4, 4, 7, 8, 8]),
+            must_run_loads: random.pick(&[0, 0, 0, 0, 1, 2, 4, 8]),
             standing: Heat::new(random),
         }
     }
@@ -205,12 +208,22 @@ fn load(random: &mut Random, limits: &[i64], loads: usize, options: usize, sprea
             powers: limits.iter().map(|&s| power(random, s, loads, spread)).collect(),
         })
         .collect();
-    let draws_standing = random.below(8) < spread.standing_loads;
-    let powers = limits.iter().map(|&s| standing_power(random, s, loads, spread));
-    Load {
-        standing: draws_standing.then(|| powers.collect()),
+    let mut load = Load {
+        must_run: random.below(8) < spread.must_run_loads,
+        standing: None,
         levels,
+    };
+    let draws_standing = random.below(8) < spread.standing_loads;
+    let powers = limits
+        .iter()
+        .map(|&s| standing_power(random, s, loads, spread))
+        .collect();
+    if load.must_run {
+        load.levels[random.below(options)].powers = powers;
+    } else if draws_standing {
+        load.standing = Some(powers);
     }
+    load
 }
 
 fn worth(random: &mut Random, most: i64) -> u64 {
@@ -233,7 +246,8 @@ fn power(random: &mut Random, limit: i64, loads: i64, spread: Spread) -> (i64, i
     up_to(random, most, spread)
 }
 
-/// P and Q of standing in one slot with limit S: mostly so little that all loads can stand, now and then more than running.
+/// P and Q of standing in one slot with limit S, or of a level of a load that must run: mostly so little that all loads can do so,
+/// now and then more than running.
 fn standing_power(random: &mut Random, limit: i64, loads: i64, spread: Spread) -> (i64, i64) {
     let eighths = match spread.standing {
         Heat::Share(eighths) => eighths,
@@ -267,7 +281,8 @@ fn reactive(random: &mut Random, p: i64, style: usize) -> i64 {
     q.clamp(-p, p).clamp(-32_768, 32_767)
 }
 
-/// Now and then in place of a load: the load before it again, with the same or with opposite Q, or with another standing pair.
+/// Now and then in place of a load: the load before it again, with the same or with opposite Q, or with another standing pair or
+/// kind of line.
 fn like_the_last(random: &mut Random, book: &Book, drawn: Load) -> Load {
     let (true, Some(last)) = (random.one_in(5), book.loads.last()) else {
         return drawn;
@@ -275,7 +290,7 @@ fn like_the_last(random: &mut Random, book: &Book, drawn: Load) -> Load {
     let mut load = last.clone();
     load.levels.truncate(drawn.levels.len());
     if random.one_in(3) {
-        load.standing = drawn.standing;
+        (load.must_run, load.standing) = (drawn.must_run, drawn.standing);
     }
     if random.one_in(2) {
         let levels = load.levels.iter_mut().map(|level| &mut level.powers);
@@ -309,6 +324,7 @@ pub fn heated(random: &mut Random, bounds: Bounds, standing: &[Eighths], running
     };
     for load in &mut book.loads {
         let amount = &standing[random.below(standing.len())];
+        load.must_run = false;
         load.standing = Some(powers(random, amount));
         for level in &mut load.levels {
             level.powers = powers(random, running);
@@ -317,11 +333,33 @@ pub fn heated(random: &mut Random, bounds: Bounds, standing: &[Eighths], running
     book
 }
 
-/// The book with this for what every load draws standing.
+/// The book with this for what every load draws standing that can stand.
 pub fn with_standing(book: &Book, standing: Standing) -> Book {
     let mut book = book.clone();
-    for load in &mut book.loads {
+    for load in book.loads.iter_mut().filter(|load| !load.must_run) {
         load.standing = standing.clone();
+    }
+    book
+}
+
+/// The book with some of its loads on lines of kind `07`, one of them at least, and some on lines of kind `02`.
+pub fn with_must_run(random: &mut Random, book: &Book) -> Book {
+    let mut book = book.clone();
+    let certain = random.below(book.loads.len());
+    for (k, load) in book.loads.iter_mut().enumerate() {
+        load.must_run = k == certain || random.one_in(3);
+        if load.must_run || random.one_in(2) {
+            load.standing = None;
+        }
+    }
+    book
+}
+
+/// The book with every load free to stand: lines of kind `07` become lines of kind `02`.
+pub fn without_must_run(book: &Book) -> Book {
+    let mut book = book.clone();
+    for load in &mut book.loads {
+        load.must_run = false;
     }
     book
 }
@@ -340,13 +378,16 @@ pub fn twin(random: &mut Random, book: &Book, choice: &[usize]) -> (Book, Vec<us
     for (load, c) in book.chosen(choice) {
         let powers: Vec<(i64, i64)> = (0..book.limits.len()).map(|slot| load.power(c, slot)).collect();
         for part in halves(&powers) {
-            let runs = random.one_in(2);
-            let load = match runs {
-                true => one_level(random, None, part),
-                false => one_level(random, Some(part), other.clone()),
+            let load = match random.below(4) {
+                0 => one_level(random, None, part),
+                1 => Load {
+                    must_run: true,
+                    ..one_level(random, None, part)
+                },
+                _ => one_level(random, Some(part), other.clone()),
             };
+            twin_choice.push(usize::from(load.standing.is_none()));
             twin.loads.push(load);
-            twin_choice.push(usize::from(runs));
         }
     }
     twin.loads.push(one_level(random, None, other));
@@ -358,6 +399,7 @@ pub fn twin(random: &mut Random, book: &Book, choice: &[usize]) -> (Book, Vec<us
 fn one_level(random: &mut Random, standing: Standing, powers: Vec<(i64, i64)>) -> Load {
     let worth = random.within(0..=65_535) as u64;
     Load {
+        must_run: false,
         standing,
         levels: vec![Level { worth, powers }],
     }
@@ -375,6 +417,7 @@ pub fn longest(random: &mut Random) -> Book {
     let limits: Vec<i64> = (0..4).map(|_| limit(random)).collect();
     let spread = Spread {
         standing_loads: 8,
+        must_run_loads: 0,
         ..Spread::new(random)
     };
     let fineness = random.within(1..=64) as u64;
@@ -388,6 +431,7 @@ pub fn longest_views() -> Book {
         powers: vec![(1, 0); 4],
     };
     let load = Load {
+        must_run: false,
         standing: None,
         levels: vec![level(1), level(2)],
     };
@@ -409,6 +453,7 @@ pub fn text(book: &Book) -> Vec<u8> {
     text += "\n";
     for load in &book.loads {
         let (kind, standing) = match &load.standing {
+            None if load.must_run => ("07", String::new()),
             None => ("02", String::new()),
             Some(powers) => ("06", digits(powers)),
         };

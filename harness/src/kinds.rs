@@ -1,11 +1,11 @@
 //! The kinds of inputs that the archive is compared on. A run of a kind makes one call or more.
 
 use crate::call::Input;
-use crate::damage::{changed, fault, plausible, reorder, shift, STYLES};
+use crate::damage::{changed, fault, of_other_kinds, plausible, reorder, shift, STYLES};
 use crate::draw::{self, Bounds, Eighths};
 use crate::random::Random;
 use crate::reference::book::Book;
-use crate::reference::{plan, quick, sheet, Case, MOST_CELLS};
+use crate::reference::{must_run, plan, quick, sheet, Case, MOST_CELLS};
 use crate::session::Session;
 use crate::VIEW_MAX;
 
@@ -17,21 +17,21 @@ pub struct Kind {
 }
 
 pub const KINDS: &[Kind] = &[
-    kind("small books", 730, small_books),
+    kind("small books", 680, small_books),
     kind("larger grids", 100, larger_grids),
     kind("many loads", 150, many_loads),
     kind("large tables", 20, large_tables),
     kind("budgets", 500, budgets),
-    kind("work areas", 450, work_areas),
-    kind("sheet buffers", 450, buffers),
-    kind("several shortages", 450, shortages),
+    kind("work areas", 350, work_areas),
+    kind("sheet buffers", 400, buffers),
+    kind("several shortages", 400, shortages),
     kind("words of earlier plans", 350, earlier_words),
-    kind("oversize books", 350, too_many_cells),
+    kind("oversize books", 250, too_many_cells),
     kind("1,048,576 cells", 2, full_tables),
-    kind("one fault", 690, one_fault),
+    kind("one fault", 590, one_fault),
     kind("two faults", 500, two_faults),
-    kind("truncated books", 750, truncated_books),
-    kind("a byte changed", 1_200, changed_books),
+    kind("truncated books", 650, truncated_books),
+    kind("a byte changed", 1_000, changed_books),
     kind("bytes inserted, deleted", 300, shifted_books),
     kind("lines exchanged", 200, reordered_books),
     kind("random bytes", 100, random_bytes),
@@ -55,6 +55,11 @@ pub const KINDS: &[Kind] = &[
     kind("standing draws nothing", 200, standing_draws_nothing),
     kind("passed over, fits later", 50, fits_later),
     kind("longest books", 10, longest_books),
+    kind("must run, none admitted", 200, must_run_none_admitted),
+    kind("must run, crowding out", 150, must_run_crowds_out),
+    kind("must run, start too large", 150, must_run_start_too_large),
+    kind("sheets, must run stands", 150, must_run_stands),
+    kind("kinds of load lines", 100, line_kinds),
 ];
 
 const fn kind(name: &'static str, share: u64, run: fn(&mut Session)) -> Kind {
@@ -110,8 +115,11 @@ fn needed_words(case: &Case) -> usize {
 }
 
 fn random_choice(random: &mut Random, book: &Book) -> Vec<usize> {
-    let levels = book.loads.iter().map(|load| load.levels.len());
-    levels.map(|o| random.below(o + 1)).collect()
+    let setting = |load| {
+        let settings: Vec<usize> = must_run::settings(load).collect();
+        random.pick(&settings)
+    };
+    book.loads.iter().map(setting).collect()
 }
 
 fn random_sheet(random: &mut Random, book: &Book) -> Vec<u8> {
@@ -424,6 +432,7 @@ fn random_digits(session: &mut Session) {
         b"010101",
         b"0101010100000020FFFF\n0201",
         b"0101010100000020FFFF\n0601",
+        b"0101010100000020FFFF\n0701",
     ]);
     let mut text = start.to_vec();
     text.extend((0..random.below(60)).map(|_| plausible(random)));
@@ -586,15 +595,15 @@ fn view_calls(case: &Case, sheet: &[u8]) -> [ViewCall; 2] {
     [(Session::mill_view, mill), (Session::supply_view, supply)]
 }
 
-/// Views of sheets on which no load runs, on which all run at their highest levels, and of any choice. The books are oversize,
-/// so that slots and loads can be many at once; a view does not refuse them.
+/// Views of sheets on which no load runs but those that must, on which all run at their highest levels, and of any choice. The
+/// books are oversize, so that slots and loads can be many at once; a view does not refuse them.
 fn views(session: &mut Session) {
     let book = draw::too_many_cells(&mut session.random);
     let case = case(&book);
-    let standing = vec![0; book.loads.len()];
+    let fewest = must_run::start(&book);
     let highest = book.loads.iter().map(|load| load.levels.len()).collect();
     let any = [(); 3].map(|_| random_choice(&mut session.random, &book));
-    for choice in [standing, highest].iter().chain(&any) {
+    for choice in [fewest, highest].iter().chain(&any) {
         let sheet = sheet::write(&book, choice, session.random.word() >> 32);
         for (view, need) in view_calls(&case, &sheet) {
             view(session, &case, &sheet, need);
@@ -651,11 +660,13 @@ fn views_as_sheets(session: &mut Session) {
     }
 }
 
-/// A small book of loads that draw so much standing and running, of which this holds.
-fn heated(session: &mut Session, amounts: &[(&[Eighths], Eighths)], holds: fn(&Case, &Book) -> bool) -> Case {
+/// What loads draw standing, one of several amounts, and running.
+type Amounts<'a> = (&'a [Eighths], Eighths);
+
+/// A small book of which this holds, drawn again until it does.
+fn found(session: &mut Session, draw: impl Fn(&mut Random) -> Book, holds: fn(&Case, &Book) -> bool) -> Case {
     loop {
-        let (standing, running) = &amounts[session.random.below(amounts.len())];
-        let book = draw::heated(&mut session.random, SMALL, standing, running);
+        let book = draw(&mut session.random);
         let case = case(&book);
         if holds(&case, &book) {
             return case;
@@ -663,28 +674,58 @@ fn heated(session: &mut Session, amounts: &[(&[Eighths], Eighths)], holds: fn(&C
     }
 }
 
-/// Books of which no choice is admitted (17), also where words, buffer or budget are short too: 10, 11 and 12 come before it. No
-/// answer depends on the words that it left.
+/// Of loads that draw so much standing and running.
+fn heated(session: &mut Session, amounts: &[Amounts], holds: fn(&Case, &Book) -> bool) -> Case {
+    found(session, |random| heated_book(random, amounts), holds)
+}
+
+fn heated_book(random: &mut Random, amounts: &[Amounts]) -> Book {
+    let (standing, running) = &amounts[random.below(amounts.len())];
+    draw::heated(random, SMALL, standing, running)
+}
+
+/// The same, but some of the loads must run, and some draw nothing standing.
+fn ventilated(session: &mut Session, amounts: &[Amounts], holds: fn(&Case, &Book) -> bool) -> Case {
+    let draw = |random: &mut Random| {
+        let book = heated_book(random, amounts);
+        draw::with_must_run(random, &book)
+    };
+    found(session, draw, holds)
+}
+
+/// Books of which no choice is admitted (17).
 fn none_admitted(session: &mut Session) {
-    let amounts: &[(&[Eighths], Eighths)] = &[(&[6..=12], 6..=12), (&[8..=16], 8..=16), (&[16..=64], 12..=64)];
+    let amounts: &[Amounts] = &[(&[6..=12], 6..=12), (&[8..=16], 8..=16), (&[16..=64], 12..=64)];
     let case = heated(session, amounts, |case, _| case.planned().plan.is_none());
-    all_shortages(session, &case);
-    let (words, buffer) = (needed_words(&case) + session.random.below(50), case.sheet_bytes());
-    for buffer in [buffer, buffer - 1, buffer + 1, 0] {
-        session.quick(&case, buffer);
-    }
-    let first = session.plan(&case, words, buffer);
-    session.plan_over(&case, first.work.part(), buffer + 1);
+    refused_last(session, &case);
+}
+
+/// A book of which no choice is admitted (17), also where words, buffer or budget are short too: 10, 11 and 12 come before it. No
+/// answer depends on the words that it left.
+fn refused_last(session: &mut Session, case: &Case) {
+    all_shortages(session, case);
+    let (words, buffer) = (needed_words(case) + session.random.below(50), case.sheet_bytes());
+    quick_buffers(session, case);
+    let first = session.plan(case, words, buffer);
+    session.plan_over(case, first.work.part(), buffer + 1);
     let other = drawn(session, SMALL);
     let mut left = first.work.part().to_vec();
     left.resize(needed_words(&other), 0);
     session.plan_over(&other, &left, other.sheet_bytes());
 }
 
+/// The quick planner with a buffer that suffices and with others: 11 comes before 17.
+fn quick_buffers(session: &mut Session, case: &Case) {
+    let need = case.sheet_bytes();
+    for buffer in [need, need - 1, need + 1, 0] {
+        session.quick(case, buffer);
+    }
+}
+
 /// Books in which all standing is not admitted, but some choice is: the quick planner has no sheet (17), the planner has one. All
 /// standing is on a sheet that every reader of sheets takes: none of them judges.
 fn running_draws_less(session: &mut Session) {
-    let amounts: &[(&[Eighths], Eighths)] = &[(&[8..=16], 0..=6), (&[10..=12], 6..=10), (&[6..=16], 0..=16)];
+    let amounts: &[Amounts] = &[(&[8..=16], 0..=6), (&[10..=12], 6..=10), (&[6..=16], 0..=16)];
     let case = heated(session, amounts, |case, book| {
         !plan::admits(book, &vec![0; book.loads.len()]) && case.planned().plan.is_some()
     });
@@ -733,7 +774,7 @@ fn standing_draws_nothing(session: &mut Session) {
 
 /// Books in which the quick planner passes over a load that it could take later, when others run and draw less than standing.
 fn fits_later(session: &mut Session) {
-    let amounts: &[(&[Eighths], Eighths)] = &[(&[0..=2, 0..=2, 12..=24], 3..=8), (&[0..=1, 8..=16], 5..=9)];
+    let amounts: &[Amounts] = &[(&[0..=2, 0..=2, 12..=24], 3..=8), (&[0..=1, 8..=16], 5..=9)];
     let case = heated(session, amounts, |_, book| {
         let choice = quick::choice(book);
         choice.is_some_and(|choice| {
@@ -751,6 +792,96 @@ fn fits_later(session: &mut Session) {
 fn longest_books(session: &mut Session) {
     let case = case(&draw::longest(&mut session.random));
     each_call(session, &case);
+}
+
+/// The case of the book with every load free to stand.
+fn free_to_stand(book: &Book) -> Case {
+    case(&draw::without_must_run(book))
+}
+
+/// Books of which no choice is admitted (17), but one would be if every load could stand.
+fn must_run_none_admitted(session: &mut Session) {
+    let amounts: &[Amounts] = &[(&[0..=4], 6..=16), (&[0..=8], 8..=16), (&[4..=8], 12..=64)];
+    let case = ventilated(session, amounts, |case, book| {
+        case.planned().plan.is_none() && free_to_stand(book).planned().plan.is_some()
+    });
+    refused_last(session, &case);
+}
+
+/// Books with a plan that is worth less than if every load could stand; with budgets of the trials, of one less, and of what the
+/// trials would be then.
+fn must_run_crowds_out(session: &mut Session) {
+    let amounts: &[Amounts] = &[(&[0..=0], 4..=16), (&[0..=4], 2..=12), (&[4..=8], 4..=12)];
+    let case = ventilated(session, amounts, |case, book| {
+        let free = free_to_stand(book);
+        let [planned, free] = [case, &free].map(|case| case.planned().plan.as_ref().map(|plan| plan.worth));
+        planned.is_some() && planned < free
+    });
+    all_calls(session, &case);
+    let trials = case.planned().trials;
+    let book = case.book.as_ref().expect("a valid book");
+    for budget in [trials, trials - 1, free_to_stand(book).planned().trials] {
+        let case = case.with_budget(budget);
+        session.plan(&case, needed_words(&case), case.sheet_bytes());
+    }
+}
+
+/// Books with a plan, in which all standing keeps the limits, but not what the quick planner begins with (17).
+fn must_run_start_too_large(session: &mut Session) {
+    let amounts: &[Amounts] = &[(&[0..=0], 4..=16), (&[0..=4], 2..=16), (&[4..=10], 4..=12)];
+    let case = ventilated(session, amounts, |case, book| {
+        let all_standing = vec![0; book.loads.len()];
+        quick::fits(book, &all_standing) && quick::choice(book).is_none() && case.planned().plan.is_some()
+    });
+    all_calls(session, &case);
+    quick_buffers(session, &case);
+}
+
+/// Sheets that are right but that a load stands on them that must run, or every such load, in each call that takes a sheet: 13,
+/// before 14, 15 and 11; and the right ones.
+fn must_run_stands(session: &mut Session) {
+    let bounds = session.random.pick(&[SMALL, MANY]);
+    let some_must = |_: &Case, book: &Book| book.loads.iter().any(|load| load.must_run);
+    let case = found(session, |random| draw::book(random, bounds), some_must);
+    let book = case.book.as_ref().expect("a valid book");
+    let choice = random_choice(&mut session.random, book);
+    let wrong = not_all_running(&mut session.random, book, &choice);
+    let [right, wrong] = [&choice, &wrong].map(|choice| sheet::write(book, choice, session.random.word() >> 32));
+    session.read_sheet(&case, &wrong);
+    let slots = book.limits.len();
+    for (sheet, count) in [(&right, slots), (&wrong, slots), (&wrong, slots + 1)] {
+        let prices = prices(&mut session.random, count);
+        session.charge(&case, sheet, &prices);
+    }
+    let names = names(&mut session.random, &choice, true);
+    for sheets in [[&right, &right], [&right, &wrong], [&wrong, &right], [&wrong, &wrong]] {
+        for (names, buffer) in [(&names[..], choice.len()), (&names[1..], 0)] {
+            session.order(&case, sheets.map(Vec::as_slice), names, buffer);
+        }
+    }
+    for (view, need) in view_calls(&case, &right) {
+        view(session, &case, &wrong, need);
+        view(session, &case, &wrong, need - 1);
+    }
+}
+
+/// The choice, but one load that must run stands, or every one.
+fn not_all_running(random: &mut Random, book: &Book, choice: &[usize]) -> Vec<usize> {
+    let such: Vec<usize> = (0..choice.len()).filter(|&k| book.loads[k].must_run).collect();
+    let (one, every) = (random.pick(&such), random.one_in(3));
+    let mut choice = choice.to_vec();
+    for k in such.into_iter().filter(|&k| every || k == one) {
+        choice[k] = 0;
+    }
+    choice
+}
+
+/// Books with a load line as another kind would have it: refused (3, 5), or another book.
+fn line_kinds(session: &mut Session) {
+    let text = draw::text(&draw::book(&mut session.random, SMALL));
+    for text in of_other_kinds(&mut session.random, &text) {
+        each_call(session, &Case::new(text));
+    }
 }
 
 #[cfg(test)]

@@ -3,6 +3,7 @@
 pub mod book;
 pub mod charge;
 pub mod grid;
+pub mod must_run;
 pub mod order;
 pub mod plan;
 pub mod quick;
@@ -28,7 +29,7 @@ pub struct Refusal {
     pub line: u64,
 }
 
-/// No choice is admitted, or all standing breaks a limit in the quick planner.
+/// No choice that runs what must run is admitted, or what the quick planner begins with breaks a limit.
 const NONE_ADMITTED: Refusal = Refusal { number: 17, line: 0 };
 
 /// What a call has to leave: its answer, the bytes at the start of the buffer (none on a refusal), and the number
@@ -79,6 +80,14 @@ impl Case {
         Case {
             planned: self.planned.clone(),
             ..Case::new(text)
+        }
+    }
+
+    /// The case of the same book with a plan and trials that are given: for the self-check, whose are wrong.
+    pub fn with_planned(&self, planned: Planned) -> Case {
+        Case {
+            planned: OnceCell::from(Compared { planned, doubt: None }),
+            ..Case::new(self.text.clone())
         }
     }
 
@@ -238,7 +247,8 @@ fn answered(first: Answer, further: Vec<u64>) -> Outcome {
     }
 }
 
-fn written(book: &Book, choice: &[usize], trials: u64) -> Outcome {
+/// A planner's sheet of this choice.
+pub fn written(book: &Book, choice: &[usize], trials: u64) -> Outcome {
     let sheet = sheet::write(book, choice, trials);
     let first = Answer {
         bytes: sheet.len() as u64,

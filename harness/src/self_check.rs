@@ -7,7 +7,8 @@ use crate::draw;
 use crate::kinds::{self, SMALL};
 use crate::random::Random;
 use crate::reference::book::{self, Book, Load};
-use crate::reference::{quick, sheet, Case, Outcome, EXAMPLE};
+use crate::reference::plan::{self, Plan, Planned};
+use crate::reference::{must_run, quick, sheet, written, Case, Outcome, EXAMPLE};
 use crate::session::Session;
 use crate::{Answer, SHEET_MAX};
 
@@ -35,6 +36,19 @@ const OVER: &[u8] =
 
 /// The trials of that book: 2 + 4 + 4, as two of the lists of loads 1 and 2 are above R.
 const OVER_TRIALS: u64 = 10;
+
+/// The bench book, but load 3 must run, which leaves no room for load 1. Its plan is that of loads 2 and 3, worth 9, with sums of
+/// (8, -4) and trials of 2 + 4 + 4.
+const MUST_RUN: &[u8] = b"0101030400000064000A\n0201000500050005\n020100050004FFFC\n0701000400040000\n";
+
+/// The bench book, but load 1 must run, and so the quick planner has no room for load 3. Its sheet has the plan's choice.
+const MUST_START: &[u8] = b"0101030400000064000A\n0701000500050005\n020100050004FFFC\n0201000400040000\n";
+
+/// The bench book, but load 1 must run and draws (8, 8): no choice is admitted.
+const TOO_LARGE: &[u8] = b"0101030400000064000A\n0701000500080008\n020100050004FFFC\n0201000400040000\n";
+
+/// The trials of that book: 1 + 2 + 2, as load 2 beside load 1 is above R.
+const TOO_LARGE_TRIALS: u64 = 5;
 
 /// A call that went right and what it has to leave.
 struct Base {
@@ -160,6 +174,71 @@ const NOT_REFUSED: &[Alteration] = &[
 
 const NOT_SPENT: &[Alteration] = &[("17 before 12", |call| call.answer.first.number = 17)];
 
+/// For the bench book with a load that must run.
+const PLANNED_STANDING: &[Alteration] = &[
+    ("a better choice without the load", |call| {
+        call.sheet.put(b"040000000A0000000A010100\n050000000900000001000A\n");
+        call.answer.first.worth = 10;
+    }),
+    ("trials with a factor of o + 1", |call| {
+        call.sheet.put(b"04000000090000000E000101\n");
+        call.answer.first.trials = 14;
+    }),
+];
+
+const STARTED_STANDING: &[Alteration] = &[
+    ("the load standing at the start", |call| {
+        call.sheet.put(b"040000000900000003000101\n0500000008FFFFFFFC000A\n");
+        call.answer.first.worth = 9;
+    }),
+    ("trials without the load", |call| {
+        call.sheet.put(b"040000000A00000002010100\n");
+        call.answer.first.trials = 2;
+    }),
+];
+
+/// For the bench book whose load 1 draws too much and must run.
+const LEFT_STANDING: &[Alteration] = &[
+    ("refusal 12 in place of 17", |call| call.answer.first.number = 12),
+    ("the load standing", |call| {
+        let sheet = b"040000000900000005000101\n0500000008FFFFFFFC000A\n";
+        taken(call, 9, 5, sheet);
+    }),
+];
+
+const TRIED_TOO_SOON: &[Alteration] = &[("17 before 11", |call| call.answer.first.number = 17)];
+
+/// For sheets on which a load stands that must run.
+const STANDING_READ: &[Alteration] = &[("the sheet taken", |call| {
+    taken(call, 10, 14, b"");
+    call.answer.further[0] = 5;
+})];
+
+const STANDING_CHARGED: &[Alteration] = &[("the sheet taken", |call| {
+    taken(call, 0, 0, b"");
+    call.answer.further[0] = 9;
+})];
+
+const STANDING_ORDERED: &[Alteration] = &[("the sheet taken", |call| {
+    taken(call, 0, 0, &[1]);
+    call.answer.further = vec![1, 1];
+})];
+
+const STANDING_LISTED: &[Alteration] = &[("the sheet taken", |call| taken(call, 0, 0, b"090000000A01010201\n"))];
+
+const STANDING_SHOWN: &[Alteration] = &[("the sheet taken", |call| taken(call, 0, 0, b"050000000900000001000A\n"))];
+
+/// Makes a success of a refusal, with these numbers and bytes.
+fn taken(call: &mut Call, worth: u64, trials: u64, written: &[u8]) {
+    call.sheet.put(written);
+    call.answer.first = Answer {
+        bytes: written.len() as u64,
+        worth,
+        trials,
+        ..Answer::default()
+    };
+}
+
 /// Counts of checks, and a line for each that failed.
 #[derive(Default)]
 pub struct Checks {
@@ -190,17 +269,17 @@ impl Checks {
 pub fn run() -> Checks {
     let mut checks = Checks::default();
     let bases = [bases(), view_bases(), standing_plan_bases(), standing_sheet_bases()];
-    for base in bases.iter().flatten() {
+    let must_run_bases = [must_run_plan_bases(), must_run_sheet_bases()];
+    for base in bases.iter().chain(&must_run_bases).flatten() {
         check_base(&mut checks, base);
     }
     for (name, alter) in FIELDS {
         check_session(&mut checks, name, *alter);
     }
-    for (books, mistakes) in [(RIGHT, PLANNING_MISTAKES), (SLACK, READING_MISTAKES)] {
-        check_reference(&mut checks, books, &("no mistake", Case::outcome), false);
-        for mistake in mistakes {
-            check_reference(&mut checks, books, mistake, true);
-        }
+    for (books, functions, mistakes) in GROUPS {
+        let mut check = |mistake, expected| check_reference(&mut checks, books, functions, mistake, expected);
+        check(&("no mistake", Case::outcome), false);
+        mistakes.iter().for_each(|mistake| check(mistake, true));
     }
     checks
 }
@@ -236,11 +315,33 @@ fn check_session(checks: &mut Checks, name: &str, alter: fn(&mut Call)) {
     checks.check(noticed, &format!("a run with every {name} altered is not noticed"));
 }
 
-/// A reference with a mistake: what it would have a planner leave.
+/// Books, the calls that are made on each of them, and the mistakes that these have to show.
+type Group = (Books, &'static [Function], &'static [Mistake]);
+
+const GROUPS: &[Group] = &[
+    (RIGHT, PLANNERS, STANDING_MISTAKES),
+    (RIGHT, PLANNERS, MUST_RUN_MISTAKES),
+    (RIGHT, &[Function::Quick], MUST_START_MISTAKES),
+    (RIGHT, READERS, SHEET_MISTAKES),
+    (SLACK, PLANNERS, READING_MISTAKES),
+];
+
+const PLANNERS: &[Function] = &[Function::Plan, Function::Quick];
+
+/// The calls that take a sheet.
+const READERS: &[Function] = &[
+    Function::ReadSheet,
+    Function::Charge,
+    Function::Order,
+    Function::MillView,
+    Function::SupplyView,
+];
+
+/// A reference with a mistake: what it would have a call leave.
 type Mistake = (&'static str, fn(&Case, Input) -> Outcome);
 
-/// To be seen on right books.
-const PLANNING_MISTAKES: &[Mistake] = &[
+/// M-104's.
+const STANDING_MISTAKES: &[Mistake] = &[
     ("standing draws nothing", |case, input| {
         without_standing(case).outcome(input)
     }),
@@ -266,21 +367,94 @@ const PLANNING_MISTAKES: &[Mistake] = &[
         outcome
     }),
     ("17 wherever all standing breaks a limit", |case, input| {
-        let (right, quick) = (case.outcome(input), case.quick(usize::MAX));
-        match (right.answer.first.number, quick.answer.first.number) {
-            (0, 17) => Outcome {
-                free_words: right.free_words,
-                ..quick
-            },
-            _ => right,
+        planned_where(case, input, |book| quick::fits(book, &all_standing(book)))
+    }),
+];
+
+/// M-105's, of a load that must run.
+const MUST_RUN_MISTAKES: &[Mistake] = &[
+    ("a factor of o + 1", |case, input| {
+        let lists = plan::lists_met(book_of(case));
+        with_trials(case, input, &lists, |load| load.levels.len() as u64 + 1)
+    }),
+    ("H counts choices in which it stands", |case, input| {
+        let lists = plan::lists_met(book_of(&free_to_stand(case)));
+        with_trials(case, input, &lists, must_run::factor)
+    }),
+    ("it stands in the plan", |case, input| {
+        let plan = free_to_stand(case).planned().plan.clone();
+        with_plan(case, input, plan)
+    }),
+    ("17 wherever it stands in the best choice of all", |case, input| {
+        let best = free_to_stand(case).planned().plan.clone();
+        let plan = case.planned().plan.clone();
+        with_plan(case, input, plan.filter(|plan| best.as_ref() == Some(plan)))
+    }),
+    ("17 wherever the best choice of all breaks a limit", |case, input| {
+        planned_where(case, input, |book| plan::admits(book, &of_most_worth(book)))
+    }),
+    ("17 wherever the quick planner's start breaks a limit", |case, input| {
+        planned_where(case, input, |book| quick::choice(book).is_some())
+    }),
+];
+
+/// M-105's, in the quick planner.
+const MUST_START_MISTAKES: &[Mistake] = &[
+    ("it stands at the start", |case, input| {
+        free_to_stand(case).outcome(input)
+    }),
+    ("17 before 11", |case, input| {
+        let mut outcome = case.outcome(input);
+        if quick::choice(book_of(case)).is_none() {
+            outcome.answer.first.number = 17;
+        }
+        outcome
+    }),
+    ("17 only where all standing breaks a limit", |case, input| {
+        let (book, outcome) = (book_of(case), case.outcome(input));
+        match outcome.answer.first.number {
+            17 if quick::fits(book, &all_standing(book)) => quick_sheet(book, &must_run::start(book)),
+            _ => outcome,
+        }
+    }),
+    ("trials of the other loads only", |case, input| {
+        let (book, outcome) = (book_of(case), case.outcome(input));
+        let others = book.loads.iter().filter(|load| !load.must_run).count();
+        match sheet::read(book, &outcome.sheet) {
+            Some((choice, _)) => written(book, &choice, others as u64),
+            None => outcome,
         }
     }),
 ];
 
+/// M-105's, in calls that take a sheet: one on which a load stands that must run is taken.
+const SHEET_MISTAKES: &[Mistake] = &[
+    ("it stands on a sheet that is read", |case, input| {
+        standing_taken(case, input, Function::ReadSheet)
+    }),
+    ("it stands on a sheet that is charged", |case, input| {
+        standing_taken(case, input, Function::Charge)
+    }),
+    ("it stands on a sheet of an order", |case, input| {
+        standing_taken(case, input, Function::Order)
+    }),
+    ("it stands on a sheet in the mill's view", |case, input| {
+        standing_taken(case, input, Function::MillView)
+    }),
+    ("it stands on a sheet in the supply company's view", |case, input| {
+        standing_taken(case, input, Function::SupplyView)
+    }),
+];
+
 /// To be seen on books with a |Q| above P.
-const READING_MISTAKES: &[Mistake] = &[("standing left out of refusal 7", |case, input| {
-    read_by_options(case).outcome(input)
-})];
+const READING_MISTAKES: &[Mistake] = &[
+    ("standing left out of refusal 7", |case, input| {
+        read_where(case, Load::options_within_active).outcome(input)
+    }),
+    ("loads that must run left out of refusal 7", |case, input| {
+        read_where(case, |load| load.must_run || load.within_active()).outcome(input)
+    }),
+];
 
 /// Books that a reference is compared on.
 type Books = (&'static str, fn(&mut Random) -> Case);
@@ -301,22 +475,61 @@ const SLACK: Books = ("slack books", |random| {
 /// The most books that are drawn for a mistake to show.
 const MOST_BOOKS: usize = 500;
 
-/// Compares calls of both planners with a reference.
-fn check_reference(checks: &mut Checks, (books, draw): Books, (name, reference): &Mistake, expected: bool) {
+/// Compares these calls with a reference.
+fn check_reference(
+    checks: &mut Checks,
+    (books, draw): &Books,
+    functions: &[Function],
+    (name, reference): &Mistake,
+    expected: bool,
+) {
     let random = &mut Random::new(1);
-    let (words, free) = (vec![7; 4 * SMALL.cells as usize], [0; SHEET_MAX]);
     let reported = (0..MOST_BOOKS).any(|_| {
         let case = draw(random);
-        [Input::plan(&case.text, &words, &free), Input::quick(&case.text, &free)].map(|input| {
-            let complaints = Call::new(random, input).complaints(&reference(&case, input));
-            !complaints.is_empty()
-        }) != [false; 2]
+        differs(random, &case, functions, *reference)
     });
     let verb = if expected { "is not" } else { "must not be" };
     checks.check(
         reported == expected,
         &format!("reference on {books}, {name}: {verb} reported"),
     );
+}
+
+/// Whether one of these calls on the book differs from a reference. The planners have a buffer that suffices and one that does not;
+/// loads may stand on the sheets that must run.
+fn differs(random: &mut Random, case: &Case, functions: &[Function], reference: fn(&Case, Input) -> Outcome) -> bool {
+    let text = &case.text;
+    let (words, free) = (vec![7; 4 * SMALL.cells as usize], [0; SHEET_MAX]);
+    let short = &free[..case.sheet_bytes().saturating_sub(1)];
+    let [running, planned] = [(); 2].map(|_| sheet_of_any(random, case));
+    let (slots, loads) = case
+        .book
+        .as_ref()
+        .map_or((0, 0), |book| (book.limits.len(), book.loads.len()));
+    let (prices, names) = (vec![40; slots], vec![0; loads]);
+    let inputs = [
+        Input::plan(text, &words, &free),
+        Input::plan(text, &words, short),
+        Input::quick(text, &free),
+        Input::quick(text, short),
+        Input::read_sheet(text, &planned),
+        Input::charge(text, &planned, &prices),
+        Input::order(text, &running, &planned, &names, &free),
+        Input::mill_view(text, &planned, &free),
+        Input::supply_view(text, &planned, &free),
+    ];
+    let mut made = inputs.into_iter().filter(|input| functions.contains(&input.function));
+    made.any(|input| {
+        let complaints = Call::new(random, input).complaints(&reference(case, input));
+        !complaints.is_empty()
+    })
+}
+
+/// A sheet of the book with any levels, or standing, for all loads; of no book, no sheet.
+fn sheet_of_any(random: &mut Random, case: &Case) -> Vec<u8> {
+    let Ok(book) = &case.book else { return Vec::new() };
+    let levels = book.loads.iter().map(|load| random.below(load.levels.len() + 1));
+    sheet::write(book, &levels.collect::<Vec<_>>(), 0)
 }
 
 fn book_of(case: &Case) -> &Book {
@@ -328,15 +541,65 @@ fn without_standing(case: &Case) -> Case {
     Case::new(draw::text(&draw::with_standing(book_of(case), None)))
 }
 
+/// The case of the book with every load free to stand.
+fn free_to_stand(case: &Case) -> Case {
+    Case::new(draw::text(&draw::without_must_run(book_of(case))))
+}
+
+fn all_standing(book: &Book) -> Vec<usize> {
+    vec![0; book.loads.len()]
+}
+
+/// The choice of greatest worth, and of the smallest code, whatever it draws.
+fn of_most_worth(book: &Book) -> Vec<usize> {
+    let best = |load: &Load| must_run::settings(load).rev().max_by_key(|&c| load.worth(c));
+    book.loads.iter().filter_map(best).collect()
+}
+
+/// What a call has to leave where this is the plan.
+fn with_plan(case: &Case, input: Input, plan: Option<Plan>) -> Outcome {
+    let trials = case.planned().trials;
+    case.with_planned(Planned { plan, trials }).outcome(input)
+}
+
+/// What a call has to leave where there is no plan unless this holds.
+fn planned_where(case: &Case, input: Input, holds: fn(&Book) -> bool) -> Outcome {
+    let plan = case.planned().plan.clone();
+    with_plan(case, input, plan.filter(|_| holds(book_of(case))))
+}
+
+/// What a call has to leave where the trials are of these lists and factors.
+fn with_trials(case: &Case, input: Input, lists: &[u64], factor: fn(&Load) -> u64) -> Outcome {
+    let factors = book_of(case).loads.iter().map(factor);
+    let planned = Planned {
+        trials: lists.iter().zip(factors).map(|(lists, factor)| lists * factor).sum(),
+        ..case.planned().clone()
+    };
+    case.with_planned(planned).outcome(input)
+}
+
+/// What a call has to leave, but one of these calls takes sheets on which a load stands that must run.
+fn standing_taken(case: &Case, input: Input, function: Function) -> Outcome {
+    match input.function == function {
+        true => free_to_stand(case).outcome(input),
+        false => case.outcome(input),
+    }
+}
+
+/// What the quick planner leaves with this choice.
+fn quick_sheet(book: &Book, choice: &[usize]) -> Outcome {
+    written(book, choice, book.loads.len() as u64)
+}
+
 /// What the quick planner has to leave, but a load's option 1 is added to the sums that are tried, and what it draws standing is
 /// not taken off. The order of trying, and the sums on the sheet, are right.
 fn quick_with_option_added(case: &Case, input: Input) -> Outcome {
-    let (book, mut outcome) = (book_of(case), case.outcome(input));
-    if let Some(choice) = quick::choice_in(&with_option_added(book), &quick::order(book)) {
-        outcome.answer.first.worth = book.worth(&choice);
-        outcome.sheet = sheet::write(book, &choice, outcome.answer.first.trials);
+    let (book, outcome) = (book_of(case), case.outcome(input));
+    let choice = quick::choice_in(&with_option_added(book), &quick::order(book));
+    match choice {
+        Some(choice) if outcome.answer.first.number == 0 => quick_sheet(book, &choice),
+        _ => outcome,
     }
-    outcome
 }
 
 /// The book in which option 1 of each load has what the load draws standing added.
@@ -352,10 +615,10 @@ fn with_option_added(book: &Book) -> Book {
     book
 }
 
-/// The case of the book as it is read where refusal 7 is for options alone.
-fn read_by_options(case: &Case) -> Case {
+/// The case of the book as it is read where refusal 7 is given unless this holds of a load.
+fn read_where(case: &Case, holds: fn(&Load) -> bool) -> Case {
     let mut case = Case::new(case.text.clone());
-    case.book = book::read_where(&case.text, Load::options_within_active);
+    case.book = book::read_where(&case.text, holds);
     case
 }
 
@@ -468,6 +731,48 @@ fn standing_sheet_bases() -> Vec<Base> {
         of("order, a load draws standing", order, &[]),
         of("mill_view, a load draws standing", mill, &[]),
         of("supply_view, a load draws standing", supply, NOT_SHOWN),
+    ]
+}
+
+/// Both planners on books with a load that must run; and 17 in both, with 12 and 11 before it.
+fn must_run_plan_bases() -> Vec<Base> {
+    let [good, start, over] = [MUST_RUN, MUST_START, TOO_LARGE].map(|book| Case::new(book.to_vec()));
+    let [last, spent] = [TOO_LARGE_TRIALS, TOO_LARGE_TRIALS - 1].map(|budget| over.with_budget(budget));
+    // Its sheet does not fit the buffer.
+    let long = Case::new(format!("01011801000000000001\n{}", "0701000000010000\n".repeat(24)).into());
+    let free = [0; BUFFER];
+    let words = [7; NEED + 9];
+    let plan = |name, case: &Case, own| of_own(own, base(name, case, Input::plan(&case.text, &words, &free)));
+    let quick = |name, case: &Case, own| of_own(own, base(name, case, Input::quick(&case.text, &free)));
+    vec![
+        plan("plan, a load must run", &good, PLANNED_STANDING),
+        plan("plan, refusal 17 for a load that must run", &last, LEFT_STANDING),
+        plan("plan, refusal 12 before 17 for a load that must run", &spent, NOT_SPENT),
+        quick("quick, a load must run", &start, STARTED_STANDING),
+        quick("quick, refusal 17 for a load that must run", &over, LEFT_STANDING),
+        quick("quick, refusal 11 before 17", &long, TRIED_TOO_SOON),
+    ]
+}
+
+/// Each call that takes a sheet, on a book with a load that must run, and a sheet on which it stands.
+fn must_run_sheet_bases() -> Vec<Base> {
+    let good = Case::new(MUST_RUN.to_vec());
+    let (text, sheet) = (&good.text, good.plan(NEED, BUFFER).sheet);
+    let free = [0; BUFFER];
+    let read = |sheet| Input::read_sheet(text, sheet);
+    let order = |running, planned| Input::order(text, running, planned, &[0; 3], &free);
+    let charge = Input::charge(text, BENCH_SHEET, &[40]);
+    let mill = Input::mill_view(text, BENCH_SHEET, &free);
+    let supply = Input::supply_view(text, BENCH_SHEET, &free);
+    let of = |name, input, own| of_own(own, base(name, &good, input));
+    vec![
+        of("read_sheet, a load must run", read(&sheet), &[]),
+        of("read_sheet, it stands", read(BENCH_SHEET), STANDING_READ),
+        of("charge, it stands", charge, STANDING_CHARGED),
+        of("order, it stands first", order(BENCH_SHEET, &sheet), STANDING_ORDERED),
+        of("order, it stands then", order(&sheet, BENCH_SHEET), STANDING_ORDERED),
+        of("mill_view, it stands", mill, STANDING_LISTED),
+        of("supply_view, it stands", supply, STANDING_SHOWN),
     ]
 }
 

@@ -132,6 +132,15 @@ struct Move {
 }
 
 impl Move {
+    /// Leads to no row: standing, for a load that must run.
+    const NONE: Move = Move {
+        active: [i64::MAX; SLOTS],
+        rows: 0,
+        columns: 0,
+        worth: 0,
+        code: 0,
+    };
+
     fn new(grid: &Grid, level: &Level, code: u64) -> Move {
         let mut step = Move {
             worth: level.worth,
@@ -229,7 +238,7 @@ fn search<'l, 'w>(
     now.code[grid.origin] = 0;
     let (mut trials, mut reached) = (0, 1);
     for (k, load) in book.loads().iter().enumerate() {
-        trials += reached * load.levels().len() as u64;
+        trials += reached * load.choices();
         if trials > book.budget {
             return None;
         }
@@ -244,6 +253,9 @@ fn pass(grid: &Grid, load: &Load, k: usize, now: &Layer, next: &mut Layer) -> u6
     let mut moves = [Move::default(); 4];
     for (c, level) in load.levels().iter().enumerate() {
         moves[c] = Move::new(grid, level, (c as u64) << (2 * k));
+    }
+    if load.must_run {
+        moves[0] = Move::NONE;
     }
     let moves = &moves[..load.levels().len()];
     let mut active = [0; SLOTS];

@@ -56,6 +56,7 @@ fn load(random: &mut Random, steps: &[i64], sign: i64) -> Load {
     let levels = 1 + random.below(3);
     let draws_standing = random.one_in(2);
     Load {
+        must_run: !draws_standing && random.one_in(2),
         standing: draws_standing.then(|| powers(random, steps, sign)),
         levels: (0..levels).map(|_| level(random, steps, sign)).collect(),
     }

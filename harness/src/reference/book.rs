@@ -1,7 +1,11 @@
 //! The book and its reader: document 01, "The book", and refusals 1 to 8; with document 02's kinds of load lines.
 
+use super::must_run;
 use super::standing::{self, Standing};
 use super::Refusal;
+
+/// The kinds of load lines.
+const LOAD_KINDS: [u64; 3] = [0x02, 0x06, 0x07];
 
 #[derive(Clone, Debug, PartialEq, Eq)]
 pub struct Book {
@@ -11,9 +15,10 @@ pub struct Book {
     pub loads: Vec<Load>,
 }
 
-/// What a load draws standing, and its levels: level c is `levels[c - 1]`.
+/// Whether a load must run, what it draws standing, and its levels: level c is `levels[c - 1]`.
 #[derive(Clone, Debug, PartialEq, Eq)]
 pub struct Load {
+    pub must_run: bool,
     pub standing: Standing,
     pub levels: Vec<Level>,
 }
@@ -50,7 +55,7 @@ impl Load {
     }
 
     /// Whether |Q| ≤ P in every slot, in every option and standing.
-    fn within_active(&self) -> bool {
+    pub fn within_active(&self) -> bool {
         let mut standing = self.standing.iter();
         self.options_within_active() && standing.all(|powers| within_active(powers))
     }
@@ -77,7 +82,7 @@ impl Book {
             .fold((0, 0), |(p, q), (dp, dq)| (p + dp, q + dq))
     }
 
-    /// The number of choices, stopped at the largest number.
+    /// The number of choices, those too in which a load stands that must run; stopped at the largest number.
     pub fn choices(&self) -> u64 {
         self.loads.iter().fold(1, |product: u64, load| {
             product.saturating_mul(load.levels.len() as u64 + 1)
@@ -116,7 +121,7 @@ pub fn read_where(bytes: &[u8], holds: fn(&Load) -> bool) -> Result<Book, Refusa
     let (line, mut rest) = next_line(bytes, 1, &[0x01])?;
     let (load_count, mut book) = header(&line)?;
     for k in 1..=load_count {
-        let (line, after) = next_line(rest, k + 1, &standing::KINDS)?;
+        let (line, after) = next_line(rest, k + 1, &LOAD_KINDS)?;
         let load = load(&line, book.limits.len())?;
         line.refuse_unless(holds(&load), 7)?;
         book.loads.push(load);
@@ -184,11 +189,13 @@ fn header(line: &Line) -> Result<(u64, Book), Refusal> {
 fn load(line: &Line, slots: usize) -> Result<Load, Refusal> {
     let options = line.field(2, 2) as usize;
     line.refuse_unless((1..=3).contains(&options), 4)?;
-    let carried = standing::carried_by(line.field(0, 2));
+    let kind = line.field(0, 2);
+    let carried = standing::carried_by(kind);
     let first = 4 + if carried { 8 * slots } else { 0 };
     let digits = 4 + 8 * slots;
     line.refuse_unless(line.digits.len() == first + options * digits, 5)?;
     Ok(Load {
+        must_run: must_run::declared_by(kind),
         standing: carried.then(|| powers(line, 4, slots)),
         levels: (0..options).map(|i| level(line, first + i * digits, slots)).collect(),
     })

@@ -1,8 +1,9 @@
 //! The plan and the trials, found in two ways: document 01, "The plan" and "Trials and the work area"; M-104: both count what
-//! standing draws, and there may be no plan.
+//! standing draws, and there may be no plan; M-105: both are of the choices that run every load that must run.
 
 use super::book::{code, Book, Load};
 use super::grid::{slots, Slot};
+use super::must_run;
 use std::cmp::Reverse;
 use std::collections::{HashMap, HashSet};
 
@@ -39,22 +40,22 @@ pub fn by_enumeration(book: &Book) -> Planned {
             best = Some((rank, choice.to_vec()));
         }
     });
-    let trials = (0..book.loads.len())
-        .map(|k| lists(book, &slots, k) * settings(book, k))
+    let trials = lists_met(book)
+        .iter()
+        .zip(&book.loads)
+        .map(|(lists, load)| lists * must_run::factor(load))
         .sum();
     let plan = best.map(|((worth, _), choice)| Plan { choice, worth });
     Planned { plan, trials }
 }
 
-/// The number of things that load k + 1 can do: o plus 1.
-fn settings(book: &Book, k: usize) -> u64 {
-    book.loads[k].levels.len() as u64 + 1
-}
-
+/// Goes through the choices of the first loads.
 fn each_choice(book: &Book, loads: usize, mut visit: impl FnMut(&[usize])) {
     let mut choice = vec![0; loads];
     loop {
-        visit(&choice);
+        if must_run::all_run(book, &choice) {
+            visit(&choice);
+        }
         let can_rise = |&k: &usize| choice[k] < book.loads[k].levels.len();
         let Some(k) = (0..loads).find(can_rise) else {
             return;
@@ -95,6 +96,12 @@ pub fn admits(book: &Book, choice: &[usize]) -> bool {
     admitted(&slots, &pairs(book, &slots, choice))
 }
 
+/// What each load's factor is taken times: H(0) to H(N - 1).
+pub fn lists_met(book: &Book) -> Vec<u64> {
+    let slots = slots(book);
+    (0..book.loads.len()).map(|k| lists(book, &slots, k)).collect()
+}
+
 /// H(k).
 fn lists(book: &Book, slots: &[Slot], k: usize) -> u64 {
     let mut seen = HashSet::new();
@@ -115,9 +122,9 @@ pub fn by_map(book: &Book) -> Planned {
     let slots = slots(book);
     let mut layer: HashMap<Pairs, Rank> = HashMap::from([(vec![(0, 0); slots.len()], (0, Reverse(0)))]);
     let mut trials = 0;
-    for k in 0..book.loads.len() {
-        trials += layer.len() as u64 * settings(book, k);
-        layer = next_layer(book, &slots, k, &layer);
+    for (k, load) in book.loads.iter().enumerate() {
+        trials += (layer.len() * must_run::settings(load).count()) as u64;
+        layer = next_layer(&slots, k, load, &layer);
     }
     let admitted = layer.iter().filter(|(pairs, _)| admitted(&slots, pairs));
     let best = admitted.map(|(_, rank)| rank).max();
@@ -128,11 +135,10 @@ pub fn by_map(book: &Book) -> Planned {
     Planned { plan, trials }
 }
 
-fn next_layer(book: &Book, slots: &[Slot], k: usize, layer: &HashMap<Pairs, Rank>) -> HashMap<Pairs, Rank> {
-    let load = &book.loads[k];
+fn next_layer(slots: &[Slot], k: usize, load: &Load, layer: &HashMap<Pairs, Rank>) -> HashMap<Pairs, Rank> {
     let mut next: HashMap<Pairs, Rank> = HashMap::with_capacity(layer.len());
     for (pairs, &(worth, Reverse(code))) in layer {
-        for c in 0..=load.levels.len() {
+        for c in must_run::settings(load) {
             let mut pairs = pairs.clone();
             add(&mut pairs, slots, load, c);
             if within_bounds(slots, &pairs) {

@@ -1,8 +1,10 @@
-//! The quick planner: document 01, "Quick planner and sheet reader"; M-104: it begins with all standing, which may draw.
+//! The quick planner: document 01, "Quick planner and sheet reader"; M-104: it begins with all standing, which may draw; M-105: but
+//! loads that must run are at option 1 from the start, and trying them changes nothing.
 
 use super::book::Book;
+use super::must_run;
 
-/// The choice that the quick planner makes: option 1 or standing for each load; none where all standing breaks a limit.
+/// The choice that the quick planner makes: option 1 or standing for each load; none where what it begins with breaks a limit.
 pub fn choice(book: &Book) -> Option<Vec<usize>> {
     choice_in(book, &order(book))
 }
@@ -16,7 +18,7 @@ pub fn order(book: &Book) -> Vec<usize> {
 
 /// The choice where the loads are tried in this order.
 pub fn choice_in(book: &Book, order: &[usize]) -> Option<Vec<usize>> {
-    let mut choice = vec![0; book.loads.len()];
+    let mut choice = must_run::start(book);
     if !fits(book, &choice) {
         return None;
     }
@@ -40,7 +42,7 @@ fn size(book: &Book, k: usize) -> i64 {
 }
 
 /// Whether every slot's true sums keep the limit.
-fn fits(book: &Book, choice: &[usize]) -> bool {
+pub fn fits(book: &Book, choice: &[usize]) -> bool {
     book.limits.iter().enumerate().all(|(slot, limit)| {
         let (p, q) = book.sums(choice, slot);
         p * p + q * q <= limit * limit

@@ -1,6 +1,8 @@
-//! The sheet's writer and reader: document 01, "The sheet" and "Quick planner and sheet reader".
+//! The sheet's writer and reader: document 01, "The sheet" and "Quick planner and sheet reader"; M-105: a sheet is foreign on which
+//! a load stands that must run.
 
 use super::book::{number, Book};
+use super::must_run;
 
 /// The sheet of a choice with a trials number.
 pub fn write(book: &Book, choice: &[usize], trials: u64) -> Vec<u8> {
@@ -18,7 +20,7 @@ pub fn write(book: &Book, choice: &[usize], trials: u64) -> Vec<u8> {
 
 /// The bytes of a sheet of this book; every choice gives the same number.
 pub fn length(book: &Book) -> usize {
-    write(book, &vec![0; book.loads.len()], 0).len()
+    write(book, &vec![1; book.loads.len()], 0).len()
 }
 
 /// The choice and the trials number whose sheet has exactly these bytes.
@@ -30,7 +32,7 @@ pub fn read(book: &Book, sheet: &[u8]) -> Option<(Vec<usize>, u64)> {
         .zip(sheet.get(18..)?.chunks(2))
         .map(|(load, digits)| {
             let c = number(digits)? as usize;
-            (c <= load.levels.len()).then_some(c)
+            must_run::settings(load).contains(&c).then_some(c)
         })
         .collect::<Option<Vec<usize>>>()?;
     let whole = choice.len() == book.loads.len();

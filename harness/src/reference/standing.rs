@@ -1,10 +1,7 @@
 //! What a load draws while it stands: document 02, M-104.
 
-/// P and Q of each slot, where the load's line is of kind `06` and carries them; a line of kind `02` carries none.
+/// P and Q of each slot, where the load's line is of kind `06` and carries them; lines of other kinds carry none.
 pub type Standing = Option<Vec<(i64, i64)>>;
-
-/// The kinds of load lines.
-pub const KINDS: [u64; 2] = [0x02, 0x06];
 
 /// Whether a line of this kind carries them.
 pub fn carried_by(kind: u64) -> bool {
@@ -135,7 +132,7 @@ mod tests {
         assert_eq!(of_load("0601000100000000"), (5, 2));
         assert_eq!(of_load("02010004FFFB000100000000"), (5, 2));
         assert_eq!(of_load("060000000000"), (4, 2));
-        for kind in ["01", "03", "05", "07", "16", "60"] {
+        for kind in ["01", "03", "05", "08", "16", "60"] {
             assert_eq!(of_load(&format!("{kind}0100000000000100000000")), (3, 2));
         }
         assert_eq!(refused_at("06010101FFFFFFFF0010", "0201000100000000"), (3, 1));

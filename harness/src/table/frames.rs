@@ -13,16 +13,22 @@ pub struct Level {
     pub reactive: [i64; SLOTS],
 }
 
-/// A load's levels from 0, standing, on; on a line of kind `02` standing draws nothing.
+/// A load's levels from 0, standing, on; on a line of kind `02` standing draws nothing, and on one of kind `07` it is no choice.
 #[derive(Clone, Copy, Default)]
 pub struct Load {
     levels: [Level; 4],
     count: usize,
+    pub must_run: bool,
 }
 
 impl Load {
     pub fn levels(&self) -> &[Level] {
         &self.levels[..self.count]
+    }
+
+    /// How many levels can be chosen.
+    pub fn choices(&self) -> u64 {
+        (self.count - usize::from(self.must_run)) as u64
     }
 }
 
@@ -106,8 +112,8 @@ pub fn read(bytes: &[u8]) -> Result<Book, Refusal> {
     let (_, fields) = next_line(&mut rest, 1, &[0x01])?;
     let mut book = header(fields)?;
     for k in 0..book.count {
-        let (kind, fields) = next_line(&mut rest, k as u64 + 2, &[0x02, 0x06])?;
-        book.loads[k] = load(fields, kind == 0x06, book.slots)?;
+        let (kind, fields) = next_line(&mut rest, k as u64 + 2, &[0x02, 0x06, 0x07])?;
+        book.loads[k] = load(fields, kind, book.slots)?;
     }
     let end = Fields {
         digits: rest,
@@ -153,13 +159,15 @@ fn header(mut fields: Fields) -> Result<Book, Refusal> {
     Ok(book)
 }
 
-fn load(mut fields: Fields, draws_standing: bool, slots: usize) -> Result<Load, Refusal> {
+fn load(mut fields: Fields, kind: u64, slots: usize) -> Result<Load, Refusal> {
+    let draws_standing = kind == 0x06;
     let options = fields.next(2) as usize;
     fields.refuse_unless((1..=3).contains(&options), 4)?;
     let standing = if draws_standing { 8 * slots } else { 0 };
     fields.refuse_unless(fields.digits.len() == standing + options * (4 + 8 * slots), 5)?;
     let mut load = Load {
         count: options + 1,
+        must_run: kind == 0x07,
         ..Load::default()
     };
     let mut kept = true;
