@@ -120,7 +120,7 @@ enum jadeshuttle_number {
     JADESHUTTLE_WRONG_NAMES = 15,       /* names: not N of them, or one is neither 0 nor a higher load's number */
     JADESHUTTLE_NAMED_LOAD_STANDS = 16, /* blocked: a load that starts names one that stands in the new sheet */
     /* The planner and the quick planner. */
-    JADESHUTTLE_NO_PLAN = 17 /* no plan: no choice is admitted; quick planner: its start breaks a limit */
+    JADESHUTTLE_NO_PLAN = 17 /* no plan: no choice is admitted; quick planner: what it begins with breaks a limit */
 };
 
 /* What the planners and the views answer. With a refusal, bytes, worth and trials are 0. */

@@ -202,9 +202,9 @@ pub fn reorder(random: &mut Random, text: &mut Vec<u8>) {
     *text = lines.concat();
 }
 
-/// The book with each kind of load lines, and two that are none, in turn on one of its load lines; as long as the line was, and
-/// with the pairs for standing put in or taken out.
-pub fn of_other_kinds(random: &mut Random, text: &[u8]) -> Vec<Vec<u8>> {
+/// The book with each kind of load lines, and two that are none, in turn on one of its load lines; as long as the line
+/// was, where its own kind gives the book itself, and with the pairs for standing put in or taken out.
+pub fn of_each_kind(random: &mut Random, text: &[u8]) -> Vec<Vec<u8>> {
     let (lines, pairs) = (lines(text), 8 * slots(text));
     let n = 1 + random.below(lines.len() - 1);
     let mut other = lines[n].clone();

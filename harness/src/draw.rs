@@ -246,8 +246,8 @@ fn power(random: &mut Random, limit: i64, loads: i64, spread: Spread) -> (i64, i
     up_to(random, most, spread)
 }
 
-/// P and Q of standing in one slot with limit S, or of a level of a load that must run: mostly so little that all loads can do so,
-/// now and then more than running.
+/// P and Q of standing in one slot with limit S, or of a level of a load that must run: mostly so little that all of
+/// them together keep the limit, now and then more than running.
 fn standing_power(random: &mut Random, limit: i64, loads: i64, spread: Spread) -> (i64, i64) {
     let eighths = match spread.standing {
         Heat::Share(eighths) => eighths,
@@ -351,15 +351,6 @@ pub fn with_must_run(random: &mut Random, book: &Book) -> Book {
         if load.must_run || random.one_in(2) {
             load.standing = None;
         }
-    }
-    book
-}
-
-/// The book with every load free to stand: lines of kind `07` become lines of kind `02`.
-pub fn without_must_run(book: &Book) -> Book {
-    let mut book = book.clone();
-    for load in &mut book.loads {
-        load.must_run = false;
     }
     book
 }
@@ -475,7 +466,7 @@ fn digits(powers: &[(i64, i64)]) -> String {
 #[cfg(test)]
 mod tests {
     use super::*;
-    use crate::kinds::SMALL;
+    use crate::kinds::{random_choice, SMALL};
     use crate::reference::plan::by_map;
     use crate::reference::Case;
     use crate::BOOK_MAX;
@@ -511,7 +502,7 @@ mod tests {
         let random = &mut Random::new(5);
         for _ in 0..300 {
             let book = book(random, SMALL);
-            let choice: Vec<usize> = (0..book.loads.len()).map(|_| random.below(2)).collect();
+            let choice = random_choice(random, &book);
             let (twin, twin_choice) = twin(random, &book, &choice);
             for slot in 0..book.limits.len() {
                 assert_eq!(book.sums(&choice, slot), twin.sums(&twin_choice, slot));
@@ -520,17 +511,17 @@ mod tests {
         }
     }
 
-    /// Of the books with lines of kind `06` some have no plan, but few.
+    /// Of the books with lines of kind `06` some have no plan, but few; and so of those with lines of kind `07`.
     #[test]
     fn few_books_have_no_plan() {
         let random = &mut Random::new(6);
-        let mut books: Vec<Book> = (0..2_000).map(|_| book(random, SMALL)).collect();
-        books.retain(|book| book.loads.iter().any(|load| load.standing.is_some()));
-        let none = books.iter().filter(|book| by_map(book).plan.is_none()).count();
-        assert!(
-            (books.len() / 40..books.len() / 8).contains(&none),
-            "{none} of {}",
-            books.len()
-        );
+        let drawn: Vec<Book> = (0..2_000).map(|_| book(random, SMALL)).collect();
+        let of_kinds: [fn(&Load) -> bool; 2] = [|load| load.standing.is_some(), |load| load.must_run];
+        for of_kind in of_kinds {
+            let books = drawn.iter().filter(|book| book.loads.iter().any(of_kind));
+            let (none, some): (Vec<&Book>, Vec<&Book>) = books.partition(|book| by_map(book).plan.is_none());
+            let (none, all) = (none.len(), none.len() + some.len());
+            assert!((all / 40..all / 8).contains(&none), "{none} of {all}");
+        }
     }
 }

@@ -1,7 +1,7 @@
 //! The kinds of inputs that the archive is compared on. A run of a kind makes one call or more.
 
 use crate::call::Input;
-use crate::damage::{changed, fault, of_other_kinds, plausible, reorder, shift, STYLES};
+use crate::damage::{changed, fault, of_each_kind, plausible, reorder, shift, STYLES};
 use crate::draw::{self, Bounds, Eighths};
 use crate::random::Random;
 use crate::reference::book::Book;
@@ -114,7 +114,8 @@ fn needed_words(case: &Case) -> usize {
     }
 }
 
-fn random_choice(random: &mut Random, book: &Book) -> Vec<usize> {
+/// Any choice of the book.
+pub fn random_choice(random: &mut Random, book: &Book) -> Vec<usize> {
     let setting = |load| {
         let settings: Vec<usize> = must_run::settings(load).collect();
         random.pick(&settings)
@@ -674,7 +675,7 @@ fn found(session: &mut Session, draw: impl Fn(&mut Random) -> Book, holds: fn(&C
     }
 }
 
-/// Of loads that draw so much standing and running.
+/// A small book of loads that draw so much standing and running, of which this holds.
 fn heated(session: &mut Session, amounts: &[Amounts], holds: fn(&Case, &Book) -> bool) -> Case {
     found(session, |random| heated_book(random, amounts), holds)
 }
@@ -794,16 +795,11 @@ fn longest_books(session: &mut Session) {
     each_call(session, &case);
 }
 
-/// The case of the book with every load free to stand.
-fn free_to_stand(book: &Book) -> Case {
-    case(&draw::without_must_run(book))
-}
-
 /// Books of which no choice is admitted (17), but one would be if every load could stand.
 fn must_run_none_admitted(session: &mut Session) {
     let amounts: &[Amounts] = &[(&[0..=4], 6..=16), (&[0..=8], 8..=16), (&[4..=8], 12..=64)];
-    let case = ventilated(session, amounts, |case, book| {
-        case.planned().plan.is_none() && free_to_stand(book).planned().plan.is_some()
+    let case = ventilated(session, amounts, |case, _| {
+        case.planned().plan.is_none() && case.free_to_stand().planned().plan.is_some()
     });
     refused_last(session, &case);
 }
@@ -812,15 +808,14 @@ fn must_run_none_admitted(session: &mut Session) {
 /// trials would be then.
 fn must_run_crowds_out(session: &mut Session) {
     let amounts: &[Amounts] = &[(&[0..=0], 4..=16), (&[0..=4], 2..=12), (&[4..=8], 4..=12)];
-    let case = ventilated(session, amounts, |case, book| {
-        let free = free_to_stand(book);
+    let case = ventilated(session, amounts, |case, _| {
+        let free = case.free_to_stand();
         let [planned, free] = [case, &free].map(|case| case.planned().plan.as_ref().map(|plan| plan.worth));
         planned.is_some() && planned < free
     });
     all_calls(session, &case);
     let trials = case.planned().trials;
-    let book = case.book.as_ref().expect("a valid book");
-    for budget in [trials, trials - 1, free_to_stand(book).planned().trials] {
+    for budget in [trials, trials - 1, case.free_to_stand().planned().trials] {
         let case = case.with_budget(budget);
         session.plan(&case, needed_words(&case), case.sheet_bytes());
     }
@@ -847,7 +842,9 @@ fn must_run_stands(session: &mut Session) {
     let choice = random_choice(&mut session.random, book);
     let wrong = not_all_running(&mut session.random, book, &choice);
     let [right, wrong] = [&choice, &wrong].map(|choice| sheet::write(book, choice, session.random.word() >> 32));
-    session.read_sheet(&case, &wrong);
+    for sheet in [&right, &wrong] {
+        session.read_sheet(&case, sheet);
+    }
     let slots = book.limits.len();
     for (sheet, count) in [(&right, slots), (&wrong, slots), (&wrong, slots + 1)] {
         let prices = prices(&mut session.random, count);
@@ -860,8 +857,9 @@ fn must_run_stands(session: &mut Session) {
         }
     }
     for (view, need) in view_calls(&case, &right) {
+        view(session, &case, &right, need);
         view(session, &case, &wrong, need);
-        view(session, &case, &wrong, need - 1);
+        view(session, &case, &wrong, 0);
     }
 }
 
@@ -876,10 +874,10 @@ fn not_all_running(random: &mut Random, book: &Book, choice: &[usize]) -> Vec<us
     choice
 }
 
-/// Books with a load line as another kind would have it: refused (3, 5), or another book.
+/// Books with each kind in turn on a load line, at both lengths: refused (3, 5), another book, or the book itself.
 fn line_kinds(session: &mut Session) {
     let text = draw::text(&draw::book(&mut session.random, SMALL));
-    for text in of_other_kinds(&mut session.random, &text) {
+    for text in of_each_kind(&mut session.random, &text) {
         each_call(session, &Case::new(text));
     }
 }

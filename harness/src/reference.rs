@@ -9,6 +9,8 @@ pub mod plan;
 pub mod quick;
 pub mod sheet;
 pub mod standing;
+#[cfg(test)]
+mod test_books;
 pub mod views;
 
 use crate::call::{Function, Input};
@@ -81,6 +83,16 @@ impl Case {
             planned: self.planned.clone(),
             ..Case::new(text)
         }
+    }
+
+    /// The case of the same book with every load free to stand: lines of kind `07` become lines of kind `02`.
+    pub fn free_to_stand(&self) -> Case {
+        let mut text = self.text.clone();
+        let lines = text.split_mut(|&byte| byte == b'\n');
+        for line in lines.filter(|line| line.starts_with(b"07")) {
+            line[1] = b'2';
+        }
+        Case::new(text)
     }
 
     /// The case of the same book with a plan and trials that are given: for the self-check, whose are wrong.

@@ -1,5 +1,6 @@
-//! Shows that the comparison can fail: calls that went right are altered in one place each, and references are given a mistake
-//! each, which must be reported; what is as it was must not be. Each call, run and reference, altered or not, is one check.
+//! Shows that the comparison can fail: calls that went right are altered in one place each, and references are given a
+//! mistake each, which must be reported; what is as it was must not be. Each call and run, altered or not, and each
+//! reference in each of its calls, is one check.
 
 use crate::call::{Call, Function, Input};
 use crate::damage::fault;
@@ -11,6 +12,7 @@ use crate::reference::plan::{self, Plan, Planned};
 use crate::reference::{must_run, quick, sheet, written, Case, Outcome, EXAMPLE};
 use crate::session::Session;
 use crate::{Answer, SHEET_MAX};
+use std::cmp::Reverse;
 
 /// The words that the bench book needs: L = 1 and R = 10, so cells are 11 × 24.
 const NEED: usize = 4 * 11 * 24;
@@ -19,6 +21,9 @@ const NEED: usize = 4 * 11 * 24;
 const BENCH_SHEET: &[u8] = b"040000000A0000000E010100\n050000000900000001000A\n";
 const SHEET: usize = BENCH_SHEET.len();
 const BUFFER: usize = SHEET + 5;
+
+/// The quick planner's sheet of the bench book.
+const BENCH_QUICK: &[u8] = b"040000000900000003000101\n0500000008FFFFFFFC000A\n";
 
 /// A book with other loads and worths than the bench book, and a sheet of it with other trials; but limit and sums are those of
 /// the bench book's plan.
@@ -158,17 +163,21 @@ const NOT_TAKEN_OFF: &[Alteration] = &[("standing not taken off where a load run
     call.answer.first.worth = 4;
 })];
 
+/// For refusal 17.
+const SPENT: Alteration = ("refusal 12 in place of 17", |call| call.answer.first.number = 12);
+
 /// For the bench book whose loads draw too much standing.
 const NOT_REFUSED: &[Alteration] = &[
-    ("refusal 12 in place of 17", |call| call.answer.first.number = 12),
+    SPENT,
     ("standing left out of the limit", |call| {
-        call.sheet.put(BENCH_SHEET);
-        call.answer.first = Answer {
-            bytes: SHEET as u64,
-            worth: 10,
-            trials: 14,
-            ..Answer::default()
-        };
+        succeeded(call, 10, 14, BENCH_SHEET)
+    }),
+];
+
+const NOT_REFUSED_QUICKLY: &[Alteration] = &[
+    SPENT,
+    ("standing left out of the limit", |call| {
+        succeeded(call, 9, 3, BENCH_QUICK)
     }),
 ];
 
@@ -188,8 +197,7 @@ const PLANNED_STANDING: &[Alteration] = &[
 
 const STARTED_STANDING: &[Alteration] = &[
     ("the load standing at the start", |call| {
-        call.sheet.put(b"040000000900000003000101\n0500000008FFFFFFFC000A\n");
-        call.answer.first.worth = 9;
+        succeeded(call, 9, 3, BENCH_QUICK)
     }),
     ("trials without the load", |call| {
         call.sheet.put(b"040000000A00000002010100\n");
@@ -199,37 +207,48 @@ const STARTED_STANDING: &[Alteration] = &[
 
 /// For the bench book whose load 1 draws too much and must run.
 const LEFT_STANDING: &[Alteration] = &[
-    ("refusal 12 in place of 17", |call| call.answer.first.number = 12),
+    SPENT,
     ("the load standing", |call| {
         let sheet = b"040000000900000005000101\n0500000008FFFFFFFC000A\n";
-        taken(call, 9, 5, sheet);
+        succeeded(call, 9, 5, sheet);
     }),
 ];
+
+const LEFT_STANDING_QUICKLY: &[Alteration] = &[SPENT, ("the load standing", |call| succeeded(call, 9, 3, BENCH_QUICK))];
 
 const TRIED_TOO_SOON: &[Alteration] = &[("17 before 11", |call| call.answer.first.number = 17)];
 
 /// For sheets on which a load stands that must run.
-const STANDING_READ: &[Alteration] = &[("the sheet taken", |call| {
-    taken(call, 10, 14, b"");
+const FOREIGN_READ: &[Alteration] = &[("the sheet taken", |call| {
+    succeeded(call, 10, 14, b"");
     call.answer.further[0] = 5;
 })];
 
-const STANDING_CHARGED: &[Alteration] = &[("the sheet taken", |call| {
-    taken(call, 0, 0, b"");
+const FOREIGN_CHARGED: &[Alteration] = &[("the sheet taken", |call| {
+    succeeded(call, 0, 0, b"");
     call.answer.further[0] = 9;
 })];
 
-const STANDING_ORDERED: &[Alteration] = &[("the sheet taken", |call| {
-    taken(call, 0, 0, &[1]);
-    call.answer.further = vec![1, 1];
+/// Load 3 stands on the running sheet: it starts, and load 1 stops.
+const FOREIGN_RUNNING: &[Alteration] = &[("the sheet taken", |call| ordered(call, 3))];
+
+/// Load 3 stands on the new sheet: it stops, and load 1 starts.
+const FOREIGN_PLANNED: &[Alteration] = &[("the sheet taken", |call| ordered(call, 1))];
+
+const FOREIGN_LISTED: &[Alteration] = &[("the sheet taken", |call| succeeded(call, 0, 0, b"090000000A01010201\n"))];
+
+const FOREIGN_SHOWN: &[Alteration] = &[("the sheet taken", |call| {
+    succeeded(call, 0, 0, b"050000000900000001000A\n")
 })];
 
-const STANDING_LISTED: &[Alteration] = &[("the sheet taken", |call| taken(call, 0, 0, b"090000000A01010201\n"))];
+/// Makes an order of a refusal: this load starts, and one stops.
+fn ordered(call: &mut Call, load: u8) {
+    succeeded(call, 0, 0, &[load]);
+    call.answer.further = vec![1, 1];
+}
 
-const STANDING_SHOWN: &[Alteration] = &[("the sheet taken", |call| taken(call, 0, 0, b"050000000900000001000A\n"))];
-
-/// Makes a success of a refusal, with these numbers and bytes.
-fn taken(call: &mut Call, worth: u64, trials: u64, written: &[u8]) {
+/// Makes a success of the call, with these numbers and bytes.
+fn succeeded(call: &mut Call, worth: u64, trials: u64, written: &[u8]) {
     call.sheet.put(written);
     call.answer.first = Answer {
         bytes: written.len() as u64,
@@ -276,10 +295,11 @@ pub fn run() -> Checks {
     for (name, alter) in FIELDS {
         check_session(&mut checks, name, *alter);
     }
-    for (books, functions, mistakes) in GROUPS {
-        let mut check = |mistake, expected| check_reference(&mut checks, books, functions, mistake, expected);
-        check(&("no mistake", Case::outcome), false);
-        mistakes.iter().for_each(|mistake| check(mistake, true));
+    for (books, mistakes) in GROUPS {
+        check_reference(&mut checks, books, &NO_MISTAKE, false);
+        for mistake in mistakes.iter().copied().flatten() {
+            check_reference(&mut checks, books, mistake, true);
+        }
     }
     checks
 }
@@ -315,21 +335,16 @@ fn check_session(checks: &mut Checks, name: &str, alter: fn(&mut Call)) {
     checks.check(noticed, &format!("a run with every {name} altered is not noticed"));
 }
 
-/// Books, the calls that are made on each of them, and the mistakes that these have to show.
-type Group = (Books, &'static [Function], &'static [Mistake]);
-
-const GROUPS: &[Group] = &[
-    (RIGHT, PLANNERS, STANDING_MISTAKES),
-    (RIGHT, PLANNERS, MUST_RUN_MISTAKES),
-    (RIGHT, &[Function::Quick], MUST_START_MISTAKES),
-    (RIGHT, READERS, SHEET_MISTAKES),
-    (SLACK, PLANNERS, READING_MISTAKES),
+/// Books, and the mistakes that calls on them have to show.
+const GROUPS: &[(Books, &[&[Mistake]])] = &[
+    (RIGHT, &[STANDING_MISTAKES, MUST_RUN_MISTAKES]),
+    (SLACK, &[READING_MISTAKES]),
 ];
 
-const PLANNERS: &[Function] = &[Function::Plan, Function::Quick];
-
-/// The calls that take a sheet.
-const READERS: &[Function] = &[
+/// Both planners, then the calls that take a sheet.
+const EVERY: &[Function] = &[
+    Function::Plan,
+    Function::Quick,
     Function::ReadSheet,
     Function::Charge,
     Function::Order,
@@ -337,28 +352,33 @@ const READERS: &[Function] = &[
     Function::SupplyView,
 ];
 
-/// A reference with a mistake: what it would have a call leave.
-type Mistake = (&'static str, fn(&Case, Input) -> Outcome);
+const PLANNERS: &[Function] = EVERY.split_at(2).0;
+const READERS: &[Function] = EVERY.split_at(2).1;
+const PLAN: &[Function] = &[Function::Plan];
+const QUICK: &[Function] = &[Function::Quick];
+
+/// A reference with a mistake: the calls that the mistake bears on, and what a call would have to leave.
+type Mistake = (&'static str, &'static [Function], fn(&Case, Input) -> Outcome);
+
+const NO_MISTAKE: Mistake = ("no mistake", EVERY, Case::outcome);
 
 /// M-104's.
 const STANDING_MISTAKES: &[Mistake] = &[
-    ("standing draws nothing", |case, input| {
+    ("standing draws nothing", EVERY, |case, input| {
         without_standing(case).outcome(input)
     }),
-    ("standing left out of the sums", |case, input| {
+    ("standing left out of the sums", PLANNERS, |case, input| {
         written_for(case, &without_standing(case), input)
     }),
-    ("standing left out of grid values and limits", |case, input| {
-        written_for(&without_standing(case), case, input)
-    }),
     (
-        "standing not taken off where a load is tried",
-        |case, input| match input.function {
-            Function::Quick => quick_with_option_added(case, input),
-            _ => case.outcome(input),
-        },
+        "standing left out of grid values and limits",
+        PLANNERS,
+        |case, input| written_for(&without_standing(case), case, input),
     ),
-    ("17 before 12", |case, input| {
+    ("standing not taken off where a load is tried", QUICK, |case, input| {
+        quick_tried_in(case, input, with_option_added)
+    }),
+    ("17 before 12", PLAN, |case, input| {
         let mut outcome = case.outcome(input);
         let number = &mut outcome.answer.first.number;
         if *number == 12 && case.planned().plan.is_none() {
@@ -366,58 +386,71 @@ const STANDING_MISTAKES: &[Mistake] = &[
         }
         outcome
     }),
-    ("17 wherever all standing breaks a limit", |case, input| {
+    ("17 wherever all standing breaks a limit", PLAN, |case, input| {
         planned_where(case, input, |book| quick::fits(book, &all_standing(book)))
     }),
 ];
 
-/// M-105's, of a load that must run.
+/// M-105's.
 const MUST_RUN_MISTAKES: &[Mistake] = &[
-    ("a factor of o + 1", |case, input| {
+    ("a load that must run has a factor of o + 1", PLAN, |case, input| {
         let lists = plan::lists_met(book_of(case));
         with_trials(case, input, &lists, |load| load.levels.len() as u64 + 1)
     }),
-    ("H counts choices in which it stands", |case, input| {
-        let lists = plan::lists_met(book_of(&free_to_stand(case)));
-        with_trials(case, input, &lists, must_run::factor)
-    }),
-    ("it stands in the plan", |case, input| {
-        let plan = free_to_stand(case).planned().plan.clone();
+    (
+        "H counts choices in which a load stands that must run",
+        PLAN,
+        |case, input| {
+            let lists = plan::lists_met(book_of(&case.free_to_stand()));
+            with_trials(case, input, &lists, must_run::factor)
+        },
+    ),
+    ("a load that must run stands in the plan", PLAN, |case, input| {
+        let plan = case.free_to_stand().planned().plan.clone();
         with_plan(case, input, plan)
     }),
-    ("17 wherever it stands in the best choice of all", |case, input| {
-        let best = free_to_stand(case).planned().plan.clone();
-        let plan = case.planned().plan.clone();
-        with_plan(case, input, plan.filter(|plan| best.as_ref() == Some(plan)))
+    (
+        "17 wherever a load that must run stands in the best choice of all",
+        PLAN,
+        |case, input| {
+            let best = case.free_to_stand().planned().plan.clone();
+            let plan = case.planned().plan.clone();
+            with_plan(case, input, plan.filter(|plan| best.as_ref() == Some(plan)))
+        },
+    ),
+    (
+        "17 wherever the choice of greatest worth is not admitted",
+        PLAN,
+        |case, input| planned_where(case, input, |book| plan::admits(book, &of_most_worth(book))),
+    ),
+    (
+        "17 wherever the quick planner's start breaks a limit",
+        PLAN,
+        |case, input| planned_where(case, input, |book| quick::choice(book).is_some()),
+    ),
+    ("a load that must run stands at the start", QUICK, |case, input| {
+        case.free_to_stand().outcome(input)
     }),
-    ("17 wherever the best choice of all breaks a limit", |case, input| {
-        planned_where(case, input, |book| plan::admits(book, &of_most_worth(book)))
-    }),
-    ("17 wherever the quick planner's start breaks a limit", |case, input| {
-        planned_where(case, input, |book| quick::choice(book).is_some())
-    }),
-];
-
-/// M-105's, in the quick planner.
-const MUST_START_MISTAKES: &[Mistake] = &[
-    ("it stands at the start", |case, input| {
-        free_to_stand(case).outcome(input)
-    }),
-    ("17 before 11", |case, input| {
+    ("17 before 11", QUICK, |case, input| {
         let mut outcome = case.outcome(input);
         if quick::choice(book_of(case)).is_none() {
             outcome.answer.first.number = 17;
         }
         outcome
     }),
-    ("17 only where all standing breaks a limit", |case, input| {
+    ("17 only where all standing breaks a limit", QUICK, |case, input| {
         let (book, outcome) = (book_of(case), case.outcome(input));
         match outcome.answer.first.number {
-            17 if quick::fits(book, &all_standing(book)) => quick_sheet(book, &must_run::start(book)),
+            17 if quick::fits(book, &all_standing(book)) => quick_sheet(book, &quick::tried(book, &quick::order(book))),
             _ => outcome,
         }
     }),
-    ("trials of the other loads only", |case, input| {
+    (
+        "trying a load that must run counts its option 1 a second time",
+        QUICK,
+        |case, input| quick_tried_in(case, input, with_option_twice),
+    ),
+    ("the trials leave out loads that must run", QUICK, |case, input| {
         let (book, outcome) = (book_of(case), case.outcome(input));
         let others = book.loads.iter().filter(|load| !load.must_run).count();
         match sheet::read(book, &outcome.sheet) {
@@ -425,33 +458,19 @@ const MUST_START_MISTAKES: &[Mistake] = &[
             None => outcome,
         }
     }),
-];
-
-/// M-105's, in calls that take a sheet: one on which a load stands that must run is taken.
-const SHEET_MISTAKES: &[Mistake] = &[
-    ("it stands on a sheet that is read", |case, input| {
-        standing_taken(case, input, Function::ReadSheet)
-    }),
-    ("it stands on a sheet that is charged", |case, input| {
-        standing_taken(case, input, Function::Charge)
-    }),
-    ("it stands on a sheet of an order", |case, input| {
-        standing_taken(case, input, Function::Order)
-    }),
-    ("it stands on a sheet in the mill's view", |case, input| {
-        standing_taken(case, input, Function::MillView)
-    }),
-    ("it stands on a sheet in the supply company's view", |case, input| {
-        standing_taken(case, input, Function::SupplyView)
-    }),
+    (
+        "a sheet is taken on which a load stands that must run",
+        READERS,
+        |case, input| case.free_to_stand().outcome(input),
+    ),
 ];
 
 /// To be seen on books with a |Q| above P.
 const READING_MISTAKES: &[Mistake] = &[
-    ("standing left out of refusal 7", |case, input| {
+    ("standing left out of refusal 7", EVERY, |case, input| {
         read_where(case, Load::options_within_active).outcome(input)
     }),
-    ("loads that must run left out of refusal 7", |case, input| {
+    ("loads that must run left out of refusal 7", EVERY, |case, input| {
         read_where(case, |load| load.must_run || load.within_active()).outcome(input)
     }),
 ];
@@ -475,29 +494,25 @@ const SLACK: Books = ("slack books", |random| {
 /// The most books that are drawn for a mistake to show.
 const MOST_BOOKS: usize = 500;
 
-/// Compares these calls with a reference.
-fn check_reference(
-    checks: &mut Checks,
-    (books, draw): &Books,
-    functions: &[Function],
-    (name, reference): &Mistake,
-    expected: bool,
-) {
-    let random = &mut Random::new(1);
-    let reported = (0..MOST_BOOKS).any(|_| {
-        let case = draw(random);
-        differs(random, &case, functions, *reference)
-    });
-    let verb = if expected { "is not" } else { "must not be" };
-    checks.check(
-        reported == expected,
-        &format!("reference on {books}, {name}: {verb} reported"),
-    );
+/// Compares each of its calls with a reference.
+fn check_reference(checks: &mut Checks, (books, draw): &Books, (name, functions, reference): &Mistake, expected: bool) {
+    for &function in *functions {
+        let random = &mut Random::new(1);
+        let reported = (0..MOST_BOOKS).any(|_| {
+            let case = draw(random);
+            differs(random, &case, function, *reference)
+        });
+        let verb = if expected { "is not" } else { "must not be" };
+        checks.check(
+            reported == expected,
+            &format!("reference of {function:?} on {books}, {name}: {verb} reported"),
+        );
+    }
 }
 
-/// Whether one of these calls on the book differs from a reference. The planners have a buffer that suffices and one that does not;
-/// loads may stand on the sheets that must run.
-fn differs(random: &mut Random, case: &Case, functions: &[Function], reference: fn(&Case, Input) -> Outcome) -> bool {
+/// Whether this call on the book differs from a reference. The planners have a buffer that suffices and one that does
+/// not; on the sheets, loads that must run may stand.
+fn differs(random: &mut Random, case: &Case, function: Function, reference: fn(&Case, Input) -> Outcome) -> bool {
     let text = &case.text;
     let (words, free) = (vec![7; 4 * SMALL.cells as usize], [0; SHEET_MAX]);
     let short = &free[..case.sheet_bytes().saturating_sub(1)];
@@ -518,7 +533,7 @@ fn differs(random: &mut Random, case: &Case, functions: &[Function], reference: 
         Input::mill_view(text, &planned, &free),
         Input::supply_view(text, &planned, &free),
     ];
-    let mut made = inputs.into_iter().filter(|input| functions.contains(&input.function));
+    let mut made = inputs.into_iter().filter(|input| input.function == function);
     made.any(|input| {
         let complaints = Call::new(random, input).complaints(&reference(case, input));
         !complaints.is_empty()
@@ -536,14 +551,9 @@ fn book_of(case: &Case) -> &Book {
     case.book.as_ref().expect("a valid book")
 }
 
-/// The case of the book with every load on a line of kind `02`.
+/// The case of the book with lines of kind `02` in place of those of kind `06`.
 fn without_standing(case: &Case) -> Case {
     Case::new(draw::text(&draw::with_standing(book_of(case), None)))
-}
-
-/// The case of the book with every load free to stand.
-fn free_to_stand(case: &Case) -> Case {
-    Case::new(draw::text(&draw::without_must_run(book_of(case))))
 }
 
 fn all_standing(book: &Book) -> Vec<usize> {
@@ -552,8 +562,13 @@ fn all_standing(book: &Book) -> Vec<usize> {
 
 /// The choice of greatest worth, and of the smallest code, whatever it draws.
 fn of_most_worth(book: &Book) -> Vec<usize> {
-    let best = |load: &Load| must_run::settings(load).rev().max_by_key(|&c| load.worth(c));
-    book.loads.iter().filter_map(best).collect()
+    let best = |load: &Load| {
+        let settings = must_run::settings(load);
+        settings
+            .max_by_key(|&c| (load.worth(c), Reverse(c)))
+            .expect("a load has an option")
+    };
+    book.loads.iter().map(best).collect()
 }
 
 /// What a call has to leave where this is the plan.
@@ -578,28 +593,25 @@ fn with_trials(case: &Case, input: Input, lists: &[u64], factor: fn(&Load) -> u6
     case.with_planned(planned).outcome(input)
 }
 
-/// What a call has to leave, but one of these calls takes sheets on which a load stands that must run.
-fn standing_taken(case: &Case, input: Input, function: Function) -> Outcome {
-    match input.function == function {
-        true => free_to_stand(case).outcome(input),
-        false => case.outcome(input),
-    }
-}
-
 /// What the quick planner leaves with this choice.
 fn quick_sheet(book: &Book, choice: &[usize]) -> Outcome {
     written(book, choice, book.loads.len() as u64)
 }
 
-/// What the quick planner has to leave, but a load's option 1 is added to the sums that are tried, and what it draws standing is
-/// not taken off. The order of trying, and the sums on the sheet, are right.
-fn quick_with_option_added(case: &Case, input: Input) -> Outcome {
+/// What the quick planner has to leave, but the sums that are tried are those of another book, which begins with the
+/// same ones. The order of trying, the loads that run from the start, and the sums on the sheet are right.
+fn quick_tried_in(case: &Case, input: Input, other: fn(&Book) -> Book) -> Outcome {
     let (book, outcome) = (book_of(case), case.outcome(input));
-    let choice = quick::choice_in(&with_option_added(book), &quick::order(book));
-    match choice {
-        Some(choice) if outcome.answer.first.number == 0 => quick_sheet(book, &choice),
-        _ => outcome,
+    if outcome.answer.first.number != 0 {
+        return outcome;
     }
+    let tried = quick::tried(&other(book), &quick::order(book));
+    let choice: Vec<usize> = tried
+        .into_iter()
+        .zip(must_run::start(book))
+        .map(|(c, first)| c.max(first))
+        .collect();
+    quick_sheet(book, &choice)
 }
 
 /// The book in which option 1 of each load has what the load draws standing added.
@@ -611,6 +623,17 @@ fn with_option_added(book: &Book) -> Book {
             *p += standing_p;
             *q += standing_q;
         }
+    }
+    book
+}
+
+/// The book in which each load that must run can stand, draws its option 1 standing, and twice as much at option 1.
+fn with_option_twice(book: &Book) -> Book {
+    let mut book = book.clone();
+    for load in book.loads.iter_mut().filter(|load| load.must_run) {
+        let powers = &mut load.levels[0].powers;
+        (load.must_run, load.standing) = (false, Some(powers.clone()));
+        powers.iter_mut().for_each(|(p, q)| (*p, *q) = (2 * *p, 2 * *q));
     }
     book
 }
@@ -642,19 +665,16 @@ fn bases() -> Vec<Base> {
     let sheet = good.plan(NEED, BUFFER).sheet;
     let foreign_sheet = [b"04", &sheet[..]].concat();
     let free = [0; BUFFER];
-    let words = [7; NEED + 9];
-    let plan = |name, case: &Case| base(name, case, Input::plan(&case.text, &words, &free));
-    let quick = |name, case: &Case| base(name, case, Input::quick(&case.text, &free));
     let read = |name, sheet| base(name, &good, Input::read_sheet(&good.text, sheet));
     let charge = |name, sheet, prices| base(name, &good, Input::charge(&good.text, sheet, prices));
     let running = sheet::write(good.book.as_ref().expect("a valid book"), &[0, 0, 1], 0);
     let order = |name, planned, names| base(name, &good, Input::order(&good.text, &running, planned, names, &free));
     vec![
-        plan("plan, a sheet", &good),
-        plan("plan, refusal 1", &unterminated),
-        plan("plan, refusal 12", &budget_exceeded),
-        quick("quick, a sheet", &good),
-        quick("quick, refusal 1", &unterminated),
+        plan_base("plan, a sheet", &good, &[]),
+        plan_base("plan, refusal 1", &unterminated, &[]),
+        plan_base("plan, refusal 12", &budget_exceeded, &[]),
+        quick_base("quick, a sheet", &good, &[]),
+        quick_base("quick, refusal 1", &unterminated, &[]),
         read("read_sheet, a sheet", &sheet),
         read("read_sheet, refusal 13", &foreign_sheet),
         charge("charge, a charge", &sheet, &[25]),
@@ -699,16 +719,12 @@ fn view_bases() -> Vec<Base> {
 fn standing_plan_bases() -> Vec<Base> {
     let [good, over] = [STANDING, OVER].map(|book| Case::new(book.to_vec()));
     let [last, spent] = [OVER_TRIALS, OVER_TRIALS - 1].map(|budget| over.with_budget(budget));
-    let free = [0; BUFFER];
-    let words = [7; NEED + 9];
-    let plan = |name, case: &Case, own| of_own(own, base(name, case, Input::plan(&case.text, &words, &free)));
-    let quick = |name, case: &Case, own| of_own(own, base(name, case, Input::quick(&case.text, &free)));
     vec![
-        plan("plan, a load draws standing", &good, NOT_SUMMED),
-        plan("plan, refusal 17", &last, NOT_REFUSED),
-        plan("plan, refusal 12 before 17", &spent, NOT_SPENT),
-        quick("quick, a load draws standing", &good, NOT_TAKEN_OFF),
-        quick("quick, refusal 17", &over, NOT_REFUSED),
+        plan_base("plan, a load draws standing", &good, NOT_SUMMED),
+        plan_base("plan, refusal 17", &last, NOT_REFUSED),
+        plan_base("plan, refusal 12 before 17", &spent, NOT_SPENT),
+        quick_base("quick, a load draws standing", &good, NOT_TAKEN_OFF),
+        quick_base("quick, refusal 17", &over, NOT_REFUSED_QUICKLY),
     ]
 }
 
@@ -740,17 +756,17 @@ fn must_run_plan_bases() -> Vec<Base> {
     let [last, spent] = [TOO_LARGE_TRIALS, TOO_LARGE_TRIALS - 1].map(|budget| over.with_budget(budget));
     // Its sheet does not fit the buffer.
     let long = Case::new(format!("01011801000000000001\n{}", "0701000000010000\n".repeat(24)).into());
-    let free = [0; BUFFER];
-    let words = [7; NEED + 9];
-    let plan = |name, case: &Case, own| of_own(own, base(name, case, Input::plan(&case.text, &words, &free)));
-    let quick = |name, case: &Case, own| of_own(own, base(name, case, Input::quick(&case.text, &free)));
     vec![
-        plan("plan, a load must run", &good, PLANNED_STANDING),
-        plan("plan, refusal 17 for a load that must run", &last, LEFT_STANDING),
-        plan("plan, refusal 12 before 17 for a load that must run", &spent, NOT_SPENT),
-        quick("quick, a load must run", &start, STARTED_STANDING),
-        quick("quick, refusal 17 for a load that must run", &over, LEFT_STANDING),
-        quick("quick, refusal 11 before 17", &long, TRIED_TOO_SOON),
+        plan_base("plan, a load must run", &good, PLANNED_STANDING),
+        plan_base("plan, refusal 17 for a load that must run", &last, LEFT_STANDING),
+        plan_base("plan, refusal 12 before 17 for a load that must run", &spent, NOT_SPENT),
+        quick_base("quick, a load must run", &start, STARTED_STANDING),
+        quick_base(
+            "quick, refusal 17 for a load that must run",
+            &over,
+            LEFT_STANDING_QUICKLY,
+        ),
+        quick_base("quick, refusal 11 before 17", &long, TRIED_TOO_SOON),
     ]
 }
 
@@ -767,13 +783,36 @@ fn must_run_sheet_bases() -> Vec<Base> {
     let of = |name, input, own| of_own(own, base(name, &good, input));
     vec![
         of("read_sheet, a load must run", read(&sheet), &[]),
-        of("read_sheet, it stands", read(BENCH_SHEET), STANDING_READ),
-        of("charge, it stands", charge, STANDING_CHARGED),
-        of("order, it stands first", order(BENCH_SHEET, &sheet), STANDING_ORDERED),
-        of("order, it stands then", order(&sheet, BENCH_SHEET), STANDING_ORDERED),
-        of("mill_view, it stands", mill, STANDING_LISTED),
-        of("supply_view, it stands", supply, STANDING_SHOWN),
+        of(
+            "read_sheet, a load stands that must run",
+            read(BENCH_SHEET),
+            FOREIGN_READ,
+        ),
+        of("charge, a load stands that must run", charge, FOREIGN_CHARGED),
+        of(
+            "order, a load that must run stands on the running sheet",
+            order(BENCH_SHEET, &sheet),
+            FOREIGN_RUNNING,
+        ),
+        of(
+            "order, a load that must run stands on the new sheet",
+            order(&sheet, BENCH_SHEET),
+            FOREIGN_PLANNED,
+        ),
+        of("mill_view, a load stands that must run", mill, FOREIGN_LISTED),
+        of("supply_view, a load stands that must run", supply, FOREIGN_SHOWN),
     ]
+}
+
+/// The planner, with more lent than the bench book needs.
+fn plan_base(name: &'static str, case: &Case, own: &'static [Alteration]) -> Base {
+    let input = Input::plan(&case.text, &[7; NEED + 9], &[0; BUFFER]);
+    of_own(own, base(name, case, input))
+}
+
+/// The quick planner, with the same buffer.
+fn quick_base(name: &'static str, case: &Case, own: &'static [Alteration]) -> Base {
+    of_own(own, base(name, case, Input::quick(&case.text, &[0; BUFFER])))
 }
 
 /// A base with alterations of its own.

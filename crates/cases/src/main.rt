@@ -1,5 +1,5 @@
 // Runs the planner, the quick planner, the sheet reader, the charge, the order of starting and the views on fixed books and sheets, and prints
-// each answer. Every refusal is reached: 1 to 8 with its line, and 9 to 16. The stored output is what documents 01 and 02 say.
+// each answer. Every refusal is reached: 1 to 8 with its line, and 9 to 17. The stored output is what documents 01 and 02 say.
 use libc::STDOUT_FILENO;
 use model::Answer;
 

@@ -1,6 +1,6 @@
 -- What is found on a sheet: its numbers, and its choice.
 -- Assumes nothing.
-use Prim.Native.Nat.{ℕ, zero, suc, _+_, _-_, _*_, _≤_, _<_}
+use Prim.Native.Nat.{ℕ, zero, suc, _+_, _*_, _≤_, _<_}
 use mathlib.Core.Path.{_≡_, refl, sym, ap, subst, _∙_}
 use mathlib.Core.Bool.{Bool, true, false, not, false≢true}
 use mathlib.Core.Logic.{_⊎_, inl, inr}
@@ -25,14 +25,15 @@ use Rattle.model.specs.Choice.{Choice, settingNumbered, leastOf}
 use Rattle.model.specs.Sheet.{sheetBytes, sheetLength}
 use Rattle.model.specs.SheetReader.{foreignRules, consBoth, choiceFrom, trialsOn, ifBelongs, sheetChoice}
 use Rattle.model.specs.Valid.{Labelled}
-use Rattle.model.specs.Values.{Held, Offers, Picked, loadValue, choiceOf, problemOf}
+use Rattle.model.specs.Values.{Held, Offers, Picked, choiceOf, problemOf}
 use Rattle.model.proofs.ListLaws.{same-eq, same-refl}
 use Rattle.model.proofs.IntegerLaws.{split}
 use Rattle.model.proofs.RefusalLaws.{first-here, first-last}
 use Rattle.model.proofs.NumberLaws.{none-found}
+use Rattle.model.proofs.ValidLaws.{load-labelled}
 use Rattle.model.proofs.PlanLaws.{chosen-length}
 use Rattle.model.proofs.SheetLaws.{sheet-length, choice-is, choice-back}
-use Rattle.model.proofs.HeldLaws.{held-valid, held-count, held-few, held-load}
+use Rattle.model.proofs.HeldLaws.{held-valid, held-count, held-few, held-at, value-least, value-count}
 use Rattle.sums.proofs.PickLaws.{picked-choice}
 use Rattle.sheet.proofs.WriteLaws.{number-at, choice-length}
 use Rattle.chosen.specs.declared.SheetPicks.{SheetPicks}
@@ -74,20 +75,19 @@ module _ (book : Book) (h : Held book) (sheet picks : List ℕ) where
   book-of = problemOf book
 
   module _ (k : ℕ) (d : Load) (l : k < book .count) where
-    load-at : getD (book .loads) k d ≡ loadValue (getD (book-of .loads) k [])
-    load-at = held-load book h k d (omega (arith, held-few book h))
-
     least-at : getD (book .loads) k d .least ≡ leastOf (getD (book-of .loads) k [])
-    unfolding loadValue
-    least-at = ap (λ (x : Load). x .least) load-at
+    least-at = ap (λ (x : Load). x .least) (held-at book h k d l) ∙ value-least (getD (book-of .loads) k [])
 
     settings-at : getD (book .loads) k d .settings ≡ length (getD (book-of .loads) k [])
-    unfolding loadValue
-    settings-at = ap (λ (x : Load). x .settings) load-at
+    settings-at = ap (λ (x : Load). x .settings) (held-at book h k d l) ∙ value-count (getD (book-of .loads) k [])
+
+    -- no number past a load's last
+    pub numbers-few : getD (book .loads) k d .least + getD (book .loads) k d .settings ≤ 4
+    numbers-few = omega (arith, least-at, settings-at, load-labelled (held-valid book h) k (omega (arith, held-count book h)) .few)
 
   -- one load more
   pub read-more : (k : ℕ) (d : Load) (c : ℕ) → k < book .count → ReadUpto sheet book-of k picks → c ≡ field sheet (18 + 2 * k) 2
-      → getD (book .loads) k d .least ≤ c → c - getD (book .loads) k d .least < getD (book .loads) k d .settings
+      → getD (book .loads) k d .least ≤ c → c < getD (book .loads) k d .least + getD (book .loads) k d .settings
       → ReadUpto sheet book-of (k + 1) (set picks k c)
   read-more k d c l r e from m =
       record {
@@ -126,8 +126,8 @@ module _ (book : Book) (h : Held book) (sheet picks : List ℕ) where
   read-below k d c l e m = read-lost k c l e (inl (omega (arith, least-at k d l)))
 
   pub read-past : (k : ℕ) (d : Load) (c : ℕ) → k < book .count → c ≡ field sheet (18 + 2 * k) 2
-      → getD (book .loads) k d .least ≤ c → getD (book .loads) k d .settings ≤ c - getD (book .loads) k d .least → PicksOn sheet book-of false picks
-  read-past k d c l e from m = read-lost k c l e (inr (omega (arith, least-at k d l, settings-at k d l)))
+      → getD (book .loads) k d .least + getD (book .loads) k d .settings ≤ c → PicksOn sheet book-of false picks
+  read-past k d c l e m = read-lost k c l e (inr (omega (arith, least-at k d l, settings-at k d l)))
 
   -- each is one of its load's
   pub read-found : (k : ℕ) → k ≡ book .count → ReadUpto sheet book-of k picks → PicksOn sheet book-of true picks
@@ -161,7 +161,7 @@ module _ (sheet : List ℕ) (b : Problem) where
     choice-at f q = ap (ifBelongs sheet b) e ∙ ap (λ x. checked 0 x (done c)) q
 
     -- other bytes than the choice and the trials on the sheet give
-    pub other-foreign : (sheet ≡ sheetBytes b c (trialsOn sheet) → ⊥) → sheetChoice sheet b ≡ refused ForeignSheet 0
+    other-foreign : (sheet ≡ sheetBytes b c (trialsOn sheet) → ⊥) → sheetChoice sheet b ≡ refused ForeignSheet 0
     other-foreign h = choice-at (Refused ForeignSheet) (first-here ForeignSheet [] _ (ap not (other (sameLists eqb sheet (sheetBytes b c (trialsOn sheet))) refl)))
       where
         other : (t : Bool) → sameLists eqb sheet (sheetBytes b c (trialsOn sheet)) ≡ t → sameLists eqb sheet (sheetBytes b c (trialsOn sheet)) ≡ false
@@ -169,7 +169,7 @@ module _ (sheet : List ℕ) (b : Problem) where
         other false q = q
 
     -- the same bytes
-    pub same-belongs : sheet ≡ sheetBytes b c (trialsOn sheet) → sheetChoice sheet b ≡ done c
+    same-belongs : sheet ≡ sheetBytes b c (trialsOn sheet) → sheetChoice sheet b ≡ done c
     same-belongs h = choice-at Passed (first-last ForeignSheet _ (ap not (ap (sameLists eqb sheet) (sym h) ∙ same-refl sheet)))
 
   -- a sheet of another length

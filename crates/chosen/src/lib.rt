@@ -33,7 +33,7 @@ fn picks_on(sheet: &[u8], book: Book) -> Picks
         if c < load.least {
             return Picks { ok: false, picks };
         }
-        if load.settings <= c - load.least {
+        if load.least + load.settings <= c {
             return Picks { ok: false, picks };
         }
         picks[k] = c;

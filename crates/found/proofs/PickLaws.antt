@@ -11,11 +11,11 @@ use lib.Seq.{take-suc-set, getD-take}
 use Rattle.model.specs.Lists.{Mem, upto}
 use Rattle.model.specs.Book.{Setting, Settings, Problem}
 use Rattle.model.specs.Choice.{Choice, IsChoice, codeOf, decode, noSetting, settingOf}
-use Rattle.model.specs.Valid.{Labelled, ValidBook}
-use Rattle.model.specs.Values.{Offers, Picked, choiceOf}
-use Rattle.model.proofs.ListLaws.{every-at}
+use Rattle.model.specs.Valid.{ValidBook}
+use Rattle.model.specs.Values.{Offers, Picked, pickOf, choiceOf}
 use Rattle.model.proofs.UptoLaws.{upto-is}
 use Rattle.model.proofs.NumberLaws.{member-offered, member-of}
+use Rattle.model.proofs.ValidLaws.{load-labelled}
 use Rattle.model.proofs.CodeLaws.{code-back}
 use Rattle.model.proofs.PlanLaws.{chosen-length}
 
@@ -42,18 +42,16 @@ module _ (b : Problem) (valid : ValidBook b) (c : Choice) (chosen : IsChoice (b 
       ∙ ap (λ xs. getD xs k 0) (digits ∙ code-back (b .loads) c (valid .loads .labels) chosen)
       ∙ List·getD-map (λ (v : Setting). v .number) c k noSetting
 
-  module _ (k : ℕ) (l : k < length (b .loads)) where
-    labelled : Labelled (getD (b .loads) k [])
-    labelled = every-at Labelled (b .loads) [] (valid .loads .labels) k l
-
-    of-number : settingOf (getD (b .loads) k []) (getD picks k 0) ≡ getD c k noSetting
-    of-number = ap (settingOf (getD (b .loads) k [])) (number-is k l) ∙ member-of (getD (b .loads) k []) labelled (getD c k noSetting) (member (b .loads) c chosen k l)
+  of-number : (k : ℕ) → k < length (b .loads) → pickOf b picks k ≡ getD c k noSetting
+  of-number k l =
+      ap (settingOf (getD (b .loads) k [])) (number-is k l)
+      ∙ member-of (getD (b .loads) k []) (load-labelled valid k l) (getD c k noSetting) (member (b .loads) c chosen k l)
 
   pub code-picked : Picked b picks
-  code-picked k l = subst (Offers (getD (b .loads) k [])) (sym (number-is k l)) (member-offered (getD (b .loads) k []) (labelled k l) (getD c k noSetting) (member (b .loads) c chosen k l))
+  code-picked k l = subst (Offers (getD (b .loads) k [])) (sym (number-is k l)) (member-offered (getD (b .loads) k []) (load-labelled valid k l) (getD c k noSetting) (member (b .loads) c chosen k l))
 
   pub code-choice : choiceOf b picks ≡ c
   unfolding choiceOf
   code-choice =
-      ap (λ n. map (λ k. settingOf (getD (b .loads) k []) (getD picks k 0)) (upto n)) (sym (chosen-length (b .loads) c chosen))
-      ∙ upto-is (λ k. settingOf (getD (b .loads) k []) (getD picks k 0)) c noSetting (λ k l. of-number k (omega (arith, chosen-length (b .loads) c chosen)))
+      ap (λ n. map (pickOf b picks) (upto n)) (sym (chosen-length (b .loads) c chosen))
+      ∙ upto-is (pickOf b picks) c noSetting (λ k l. of-number k (omega (arith, chosen-length (b .loads) c chosen)))

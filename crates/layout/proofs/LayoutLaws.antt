@@ -1,6 +1,6 @@
 -- What the search asks of a book, from the parts of its layout.
 -- Assumes nothing.
-use Prim.Native.Nat.{ℕ, suc, _+_, _<_, _≤_}
+use Prim.Native.Nat.{ℕ, _+_, _<_, _≤_}
 use mathlib.Core.Path.{_≡_, refl, sym, _∙_}
 use mathlib.Core.List.{List, [], _∷_}
 use native.Mathlib.Nat.{le-refl}
@@ -11,10 +11,11 @@ use Rattle.model.specs.Lists.{Every}
 use Rattle.model.specs.Book.{Settings}
 use Rattle.model.specs.Grid.{Slot, slotsOf}
 use Rattle.model.specs.Trials.{cells}
-use Rattle.model.specs.Choice.{leastOf}
-use Rattle.model.specs.Valid.{Numbered, Labelled, SettingSmall, SettingBelow}
+use Rattle.model.specs.Valid.{Labelled, SettingSmall, SettingBelow}
 use Rattle.model.specs.Values.{Held, problemOf}
 use Rattle.model.specs.Bounds.{mostCells}
+use Rattle.model.proofs.ListLaws.{every-mem, every-of-mem}
+use Rattle.model.proofs.NumberLaws.{number-small}
 use Rattle.model.proofs.AdmissionLaws.{slots-for}
 use Rattle.model.proofs.IndexLaws.{cells-one}
 use Rattle.model.proofs.HeldLaws.{held-valid, held-count, held-slots, held-four}
@@ -28,13 +29,13 @@ use Rattle.slots.proofs.SlotLaws.{slots-length}
 use Rattle.layout.specs.declared.Extent.{Extent}
 use Rattle.layout.specs.Layout.{Extended, LayoutIs}
 
-setting-below : (i : ℕ) (vs : Settings) → Numbered i vs → i + length vs ≤ 4 → Every SettingSmall vs → Every (SettingBelow 65535) vs
-setting-below i [] n l s = tt
-setting-below i (v ∷ vs) n l s = ((omega (arith, s .0 .worth), omega (arith, n .0)), setting-below (suc i) vs (n .1) (omega arith) (s .1))
+settings-below : (vs : Settings) → Labelled vs → Every SettingSmall vs → Every (SettingBelow 65535) vs
+settings-below vs a s =
+    every-of-mem (SettingBelow 65535) vs (λ v m. (omega (arith, every-mem SettingSmall v vs m s .worth), omega (arith, number-small vs v a m)))
 
 loads-below : (loads : List Settings) → Every Labelled loads → Every (Every SettingSmall) loads → Every (Every (SettingBelow 65535)) loads
 loads-below [] a s = tt
-loads-below (vs ∷ loads) a s = (setting-below (leastOf vs) vs (a .0 .numbered) (a .0 .few) (s .0), loads-below loads (a .1) (s .1))
+loads-below (vs ∷ loads) a s = (settings-below vs (a .0) (s .0), loads-below loads (a .1) (s .1))
 
 tops-in : (steps tops widths limits : List ℕ) (t : ℕ) (slots : List Slot) → SlotsIn 0 steps tops widths limits t slots → TopsAre tops t slots
 tops-in steps tops widths limits t [] h = tt

@@ -1,7 +1,7 @@
 -- Load lines: where things stand on them, their settings by number, |Q| > P in some of them, and Q plus 32,768.
 -- Assumes nothing.
 use mathlib.Core.Path.{_≡_, refl, sym, ap, ap₂, _∙_}
-use mathlib.Core.Bool.{Bool, true, false, cond, not, _||_}
+use mathlib.Core.Bool.{Bool, true, false, cond, _||_}
 use mathlib.Core.Logic.{_⊎_, inl, inr}
 use mathlib.Core.List.{List, [], _∷_, map}
 use mathlib.Core.Option.{none, some}
@@ -14,20 +14,20 @@ use lib.IntN.{ℤ, pos, negsuc, natAbs, subℕ}
 use lib.ListN.{length, getD, List·getD-eq-default}
 use borrow.Author.Tests.{lt-ltb, le-ltb, ne-eqb, eqb-true, not-false}
 use Rattle.model.specs.declared.Finding.the-variants.{Passed}
-use Rattle.model.specs.Lists.{uptoFrom, upto, keepIf, any, Every}
+use Rattle.model.specs.Lists.{uptoFrom, upto, any, Every}
 use Rattle.model.specs.Frames.{field, signed}
 use Rattle.model.specs.Refusals.{first}
 use Rattle.model.specs.Book.{Power, noPower, Setting, Settings, optionCount, standingPairs, mustRun, optionStart, powerAt, optionAt, optionOn, options, standingPower, standing, settings, reactiveExceeds, someExceeds, loadRules}
-use Rattle.model.specs.Choice.{settingNumbered, noSetting, settingOr, settingOf, leastOf, powerIn}
+use Rattle.model.specs.Choice.{settingNumbered, noSetting, settingOr, settingOf, powerIn}
 use Rattle.model.specs.Valid.{Numbered}
 use Rattle.model.specs.Values.{raised}
 use Rattle.model.proofs.IntegerLaws.{split, sub-neg}
 use Rattle.model.proofs.RefusalLaws.{first-passed}
 use Rattle.model.proofs.UptoLaws.{length-upto, getD-upto, from-is, upto-is}
-use Rattle.model.proofs.NumberLaws.{none-found, numbered-of, numbered-least}
-use Rattle.model.proofs.ValidLaws.{options-numbered, options-length, sized-settings}
+use Rattle.model.proofs.NumberLaws.{none-found, numbered-of}
+use Rattle.model.proofs.ValidLaws.{options-numbered, options-length, settings-by, sized-settings}
 use Rattle.hex.proofs.RangeLaws.{in-range}
-use Rattle.loadline.specs.LoadLine.{LoadLine, leastNumber}
+use Rattle.loadline.specs.LoadLine.{LoadLine}
 
 -- a line that is not refused
 pub load-line : (t : ℕ) (line : List ℕ) → t ≤ 4 → first (loadRules t line) ≡ Passed → LoadLine t (standingPairs t line) (optionCount line) line
@@ -86,34 +86,15 @@ line-holds t pairs o line h = rw (h .long) (omega arith)
 
 -- ---- the settings of a load line
 
--- how many they are, and which is the first
-pub length-settings : (t : ℕ) (line : List ℕ) → leastNumber line + length (settings t line) ≡ optionCount line + 1
-unfolding leastNumber
-length-settings t line = go (mustRun line)
-  where
-    go : (b : Bool) → cond b 1 0 + length (keepIf (not b) (standing t line) (options t line)) ≡ optionCount line + 1
-    go true = omega (arith, options-length t line)
-    go false = omega (arith, options-length t line)
-
-pub least-settings : (t : ℕ) (line : List ℕ) → 1 ≤ optionCount line → leastOf (settings t line) ≡ leastNumber line
-unfolding leastNumber
-least-settings t line h = go (mustRun line)
-  where
-    go : (b : Bool) → leastOf (keepIf (not b) (standing t line) (options t line)) ≡ cond b 1 0
-    go true = numbered-least 1 (options t line) (options-numbered t line) (omega (arith, options-length t line))
-    go false = refl
-
 -- no option has number 0
 no-option : (t : ℕ) (line : List ℕ) → settingNumbered 0 (options t line) ≡ none
 no-option t line = none-found 1 (options t line) 0 (options-numbered t line) (inl (omega arith))
 
--- only standing has it
+-- from number 1 on the settings are the options
 after-standing : (t c : ℕ) (line : List ℕ) → 1 ≤ c → settingNumbered c (settings t line) ≡ settingNumbered c (options t line)
-after-standing t c line p = go (mustRun line)
-  where
-    go : (b : Bool) → settingNumbered c (keepIf (not b) (standing t line) (options t line)) ≡ settingNumbered c (options t line)
-    go true = refl
-    go false = ap (λ x. cond x (some (standing t line)) (settingNumbered c (options t line))) (ne-eqb 0 c (λ e. omega arith))
+after-standing t c line p =
+    settings-by (λ b vs. settingNumbered c vs ≡ settingNumbered c (options t line)) t line (λ e. refl)
+    (λ e. ap (λ x. cond x (some (standing t line)) (settingNumbered c (options t line))) (ne-eqb 0 c (λ q. omega arith)))
 
 pub setting-option : (t c : ℕ) (line : List ℕ) → 1 ≤ c → c ≤ optionCount line
     → settingOf (settings t line) c ≡ optionAt t line c (optionStart t (standingPairs t line) (c - 1))
@@ -133,16 +114,13 @@ setting-past t c line h =
     ap settingOr (after-standing t c line (omega arith)
     ∙ none-found 1 (options t line) c (options-numbered t line) (inr (omega (arith, options-length t line))))
 
--- standing has no worth, and where there is none nothing has
+-- setting 0 has no worth: standing has none, and where a load must run there is no setting 0
 pub worth-standing : (t c : ℕ) (line : List ℕ) → c < 1 → settingOf (settings t line) c .worth ≡ 0
 unfolding settingOf
 worth-standing t c line h =
     let z : c ≡ 0 = omega arith in
-    ap (λ j. settingOr (settingNumbered j (settings t line)) .worth) z ∙ go (mustRun line)
-  where
-    go : (b : Bool) → settingOr (settingNumbered 0 (keepIf (not b) (standing t line) (options t line))) .worth ≡ 0
-    go true = ap (λ v. settingOr v .worth) (no-option t line)
-    go false = refl
+    ap (λ j. settingOr (settingNumbered j (settings t line)) .worth) z
+    ∙ settings-by (λ b vs. settingOr (settingNumbered 0 vs) .worth ≡ 0) t line (λ e. ap (λ v. settingOr v .worth) (no-option t line)) (λ e. refl)
 
 -- past the pairs that a line carries standing draws nothing
 pub standing-none : (t s : ℕ) (line : List ℕ) → standingPairs t line ≤ s → standingPower t line s ≡ noPower
@@ -164,18 +142,15 @@ module _ (t c s : ℕ) (line : List ℕ) where
   unfolding settingOf
   power-standing h =
       let z : c ≡ 0 = omega arith in
-      ap (λ j. powerIn s (settingOf (settings t line) j)) z ∙ go (mustRun line) refl
+      ap (λ j. powerIn s (settingOf (settings t line) j)) z
+      ∙ settings-by (λ b vs. powerIn s (settingOr (settingNumbered 0 vs)) ≡ standingPower t line s) t line
+      (λ e. ap (λ v. powerIn s (settingOr v)) (no-option t line) ∙ sym (standing-none t s line (omega (arith, must-run-pairs t line e)))) (λ e. in-slot (split s t))
     where
       in-slot : (s < t) ⊎ (t ≤ s) → getD (map (standingPower t line) (upto t)) s noPower ≡ standingPower t line s
       in-slot (inl l) = getD-upto (standingPower t line) t s noPower l
       in-slot (inr l) =
           List·getD-eq-default (map (standingPower t line) (upto t)) noPower {n = s} (omega (arith, length-upto (standingPower t line) t))
           ∙ sym (standing-none t s line (omega (arith, pairs-most t line)))
-
-      go : (b : Bool) → mustRun line ≡ b
-          → powerIn s (settingOr (settingNumbered 0 (keepIf (not b) (standing t line) (options t line)))) ≡ standingPower t line s
-      go true e = ap (λ v. powerIn s (settingOr v)) (no-option t line) ∙ sym (standing-none t s line (omega (arith, must-run-pairs t line e)))
-      go false e = in-slot (split s t)
 
   pub power-past : optionCount line < c → powerIn s (settingOf (settings t line) c) ≡ noPower
   power-past h = ap (powerIn s) (setting-past t c line h)
@@ -219,22 +194,18 @@ by-numbers i vs h = sym (from-is (settingOf vs) i vs noSetting (numbered-of i vs
 -- by the numbers from 0 on, also where no setting has number 0
 pub exceeds-is : (t : ℕ) (line : List ℕ) → someExceeds (settings t line) ≡ any (exceedsIn t) (map (settingOf (settings t line)) (upto (optionCount line + 1)))
 unfolding someExceeds settingOf
-exceeds-is t line = exceeds-each t (settings t line) (sized-settings t line) ∙ go (mustRun line)
+exceeds-is t line =
+    exceeds-each t (settings t line) (sized-settings t line)
+    ∙ settings-by (λ b vs. any (exceedsIn t) vs ≡ any (exceedsIn t) (map (settingOf vs) (upto (optionCount line + 1)))) t line
+    (λ e. ap (any (exceedsIn t)) (by-numbers 1 (options t line) (options-numbered t line))
+    ∙ ap (λ x. x || any (exceedsIn t) (map (settingOf (options t line)) (uptoFrom 1 (length (options t line)))))
+    (sym (ap (λ v. exceedsIn t (settingOr v)) (no-option t line) ∙ exceeds-none 0 t))
+    ∙ numbers (options t line))
+    (λ e. ap (any (exceedsIn t)) (by-numbers 0 (standing t line ∷ options t line) (refl, options-numbered t line)) ∙ numbers (standing t line ∷ options t line))
   where
-    numbers : (vs : Settings) (n : ℕ) → n ≡ optionCount line + 1
-        → any (exceedsIn t) (map (settingOf vs) (upto n)) ≡ any (exceedsIn t) (map (settingOf vs) (upto (optionCount line + 1)))
-    numbers vs n e = ap (λ k. any (exceedsIn t) (map (settingOf vs) (upto k))) e
-
-    go : (b : Bool) → any (exceedsIn t) (keepIf (not b) (standing t line) (options t line))
-        ≡ any (exceedsIn t) (map (settingOf (keepIf (not b) (standing t line) (options t line))) (upto (optionCount line + 1)))
-    go true =
-        ap (any (exceedsIn t)) (by-numbers 1 (options t line) (options-numbered t line))
-        ∙ ap (λ x. x || any (exceedsIn t) (map (settingOf (options t line)) (uptoFrom 1 (length (options t line)))))
-        (sym (ap (λ v. exceedsIn t (settingOr v)) (no-option t line) ∙ exceeds-none 0 t))
-        ∙ numbers (options t line) (suc (length (options t line))) (omega (arith, options-length t line))
-    go false =
-        ap (any (exceedsIn t)) (by-numbers 0 (standing t line ∷ options t line) (refl, options-numbered t line))
-        ∙ numbers (standing t line ∷ options t line) (suc (length (options t line))) (omega (arith, options-length t line))
+    numbers : (vs : Settings)
+        → any (exceedsIn t) (map (settingOf vs) (upto (suc (length (options t line))))) ≡ any (exceedsIn t) (map (settingOf vs) (upto (optionCount line + 1)))
+    numbers vs = let e : suc (length (options t line)) ≡ optionCount line + 1 = omega (arith, options-length t line) in ap (λ k. any (exceedsIn t) (map (settingOf vs) (upto k))) e
 
 -- ---- Q plus 32,768
 

@@ -11,9 +11,10 @@ ghost use Rattle.model.specs.Lists.{upto};
 ghost use Rattle.model.specs.Refusals.{first};
 ghost use Rattle.model.specs.Book.{noPower, standingPairs, optionStart, powerAt, standingPower, settings, reactiveExceeds, someExceeds, loadRules};
 ghost use Rattle.model.specs.Choice.{settingOf, powerIn};
+ghost use Rattle.model.specs.MustRun.{leastNumber};
 ghost use Rattle.model.specs.Values.{loadValue};
 ghost use Rattle.model.specs.Bounds.{mostSlots, mostOptions, mostSettings};
-ghost use Rattle.loadline.specs.LoadLine.{LoadLine, leastNumber, powerValue};
+ghost use Rattle.loadline.specs.LoadLine.{LoadLine, powerValue};
 
 // An active power, and a reactive power plus 32,768.
 pub struct PowerValue {

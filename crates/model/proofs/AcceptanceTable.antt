@@ -308,19 +308,23 @@ standingRows =
     ∷ ordersFrom (bytesOf heaters) heatersSheet heatersPlan (0 ∷ 0 ∷ []) 2 (0 ∷ 2 ∷ 0 ∷ 1 ∷ 2 ∷ [])
     ∷ []
 
--- M-105: loads 1 and 3 draw (4, 0) and (3, 0) where they run; load 2 must run, at (5, 0) or (6, 0); the plan's sheet, and one on which load 2 stands
+-- M-105: loads 1 and 3 draw (4, 0) and (3, 0) where they run; load 2 must run, at (5, 0) or (6, 0); and the plan's sheet
 abbrev store : String
 store = "0101030500000064000A\n0201000900040000\n0702000100050000000300060000\n0201000400030000\n"
 
 abbrev storeSheet : List ℕ
 storeSheet = bytesOf "040000000C0000000E010200\n050000000A00000000000A\n"
 
-abbrev storeStanding : List ℕ
-storeStanding = bytesOf "040000000D00000014010001\n050000000700000000000A\n"
-
--- the same book, but load 2 may stand
+-- the same book, but load 2 may stand; and its plan's sheet, on which it does
 abbrev storeFree : String
 storeFree = "0101030500000064000A\n0201000900040000\n0202000100050000000300060000\n0201000400030000\n"
+
+abbrev storeStanding : String
+storeStanding = "040000000D00000014010001\n050000000700000000000A\n"
+
+-- load 1 stands at (6, 0) and runs at (1, 0); load 2 must run, at (5, 0)
+abbrev conditioner : String
+conditioner = "0101020500000064000A\n060100060000000300010000\n0701000100050000\n"
 
 -- one load that must run, at (12, 0) with worth 5, which is over the limit of 10, or at (6, 0) with worth 2
 abbrev fans : String
@@ -329,8 +333,17 @@ fans = "0101010A00000064000A\n07020005000C0000000200060000\n"
 -- of loads that must run (M-105)
 unfoldable pub mustRunRows : List Row
 mustRunRows =
+    -- a sheet on which a load stands that must run is foreign, in each part that reads a sheet
+    answers (bytesOf store) storeSheet (0 ∷ 0 ∷ 9 ∷ 12 ∷ 14 ∷ [])
+    ∷ answers (bytesOf store) (bytesOf storeStanding) (13 ∷ 0 ∷ 0 ∷ 0 ∷ 0 ∷ [])
+    ∷ answers (bytesOf storeFree) (bytesOf storeStanding) (0 ∷ 0 ∷ 17 ∷ 13 ∷ 20 ∷ [])
+    ∷ charges (bytesOf store) (bytesOf storeStanding) (20 ∷ []) (13 ∷ 0 ∷ 0 ∷ [])
+    ∷ ordersFrom (bytesOf store) (bytesOf storeStanding) storeSheet (0 ∷ 0 ∷ 0 ∷ []) 3 (13 ∷ 0 ∷ [])
+    ∷ ordersFrom (bytesOf store) storeSheet (bytesOf storeStanding) (0 ∷ 0 ∷ 0 ∷ []) 3 (13 ∷ 0 ∷ [])
+    ∷ shows millResult (bytesOf store) (bytesOf storeStanding) 19 (13 ∷ 0 ∷ 0 ∷ 0 ∷ 0 ∷ []) "FF0D0000\n"
+    ∷ shows supplyResult (bytesOf store) (bytesOf storeStanding) 23 (13 ∷ 0 ∷ 0 ∷ 0 ∷ 0 ∷ []) "FF0D0000\n"
     -- only the better choice breaks the limit: the other is the plan; the quick planner begins with option 1 and gives 17, after 11
-    prints fans "04000000020000000202\n050000000600000000000A\n"
+    ∷ prints fans "04000000020000000202\n050000000600000000000A\n"
     ∷ quickPrints fans "FF110000\n"
     ∷ shows quickIn (bytesOf fans) [] 44 (17 ∷ 0 ∷ 0 ∷ 0 ∷ 0 ∷ []) "FF110000\n"
     ∷ shows quickIn (bytesOf fans) [] 43 (11 ∷ 0 ∷ 0 ∷ 0 ∷ 0 ∷ []) "FF0B0000\n"
@@ -340,24 +353,22 @@ mustRunRows =
     ∷ prints "0101010A000000640005\n02020005000C0000000200060000\n" "04000000000000000300\n0500000000000000000005\n"
     -- over the limit in one of two slots
     ∷ prints "0102010A0000006400030002\n070100010003000000030000\n" "FF110000\n"
-    -- it crowds out a better choice, which is the plan where it may stand; the factor is o, and H counts no choice in which it stands
+    -- one that crowds out a better choice, which is the plan where it may stand; the factor is o, and H counts no choice in which it stands
     ∷ prints store "040000000C0000000E010200\n050000000A00000000000A\n"
     ∷ tries store (2 ∷ 4 ∷ 8 ∷ [])
-    ∷ prints storeFree "040000000D00000014010001\n050000000700000000000A\n"
+    ∷ prints storeFree storeStanding
     ∷ tries storeFree (2 ∷ 6 ∷ 12 ∷ [])
     -- the quick planner begins with it at option 1: load 3 fits beside it, load 1 then does not, and trying load 2 changes nothing
     ∷ quickPrints store "040000000500000003000101\n050000000800000000000A\n"
+    -- "all others standing", with what they draw: 6 + 5 is over the limit, so that the quick planner gives 17; running load 1 draws less
+    ∷ prints conditioner "0400000004000000040101\n050000000600000000000A\n"
+    ∷ quickPrints conditioner "FF110000\n"
+    ∷ tries conditioner (2 ∷ 2 ∷ [])
+    -- two loads that must run, of worth 0: both do, in the plan and in the quick planner's choice
+    ∷ prints "0101020500000064000A\n0701000000050000\n0701000000050000\n" "0400000000000000020101\n050000000A00000000000A\n"
+    ∷ quickPrints "0101020500000064000A\n0701000000050000\n0701000000050000\n" "0400000000000000020101\n050000000A00000000000A\n"
     -- no pair has a ≤ R after load 1, of which each choice runs it: H(1) = 0
     ∷ tries "0101020500000064000A\n07010005000B0000\n0201000500010000\n" (1 ∷ 0 ∷ [])
-    -- a sheet on which it stands is foreign, in each part that reads a sheet
-    ∷ answers (bytesOf store) storeSheet (0 ∷ 0 ∷ 9 ∷ 12 ∷ 14 ∷ [])
-    ∷ answers (bytesOf store) storeStanding (13 ∷ 0 ∷ 0 ∷ 0 ∷ 0 ∷ [])
-    ∷ answers (bytesOf storeFree) storeStanding (0 ∷ 0 ∷ 17 ∷ 13 ∷ 20 ∷ [])
-    ∷ charges (bytesOf store) storeStanding (20 ∷ []) (13 ∷ 0 ∷ 0 ∷ [])
-    ∷ ordersFrom (bytesOf store) storeStanding storeSheet (0 ∷ 0 ∷ 0 ∷ []) 3 (13 ∷ 0 ∷ [])
-    ∷ ordersFrom (bytesOf store) storeSheet storeStanding (0 ∷ 0 ∷ 0 ∷ []) 3 (13 ∷ 0 ∷ [])
-    ∷ shows millResult (bytesOf store) storeStanding 19 (13 ∷ 0 ∷ 0 ∷ 0 ∷ 0 ∷ []) "FF0D0000\n"
-    ∷ shows supplyResult (bytesOf store) storeStanding 23 (13 ∷ 0 ∷ 0 ∷ 0 ∷ 0 ∷ []) "FF0D0000\n"
     -- "laid out as `02`": a `07` line with a standing pair, an option with |Q| = P, and one with |Q| = P + 1; and no header
     ∷ prints "0101010A00000064000A\n070100080000000500040000\n" "FF050002\n"
     ∷ reads "0101010A00000064000A\n070100050004FFFC\n"

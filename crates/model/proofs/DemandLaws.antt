@@ -29,7 +29,7 @@ use Rattle.model.proofs.ChoiceLaws.{choice-every, worth-most}
 use Rattle.model.proofs.AdmissionLaws.{square-abs, abs-offset, of-admits, Rounded, rounded-choice}
 use Rattle.model.proofs.PlanLaws.{plan-sound, plan-worth, chosen-length}
 use Rattle.model.proofs.ValidLaws.{book-valid}
-use Rattle.model.proofs.MustRunLaws.{choices-run}
+use Rattle.model.proofs.MustRunLaws.{book-runs}
 use Rattle.model.proofs.SheetGivenLaws.{past-only, past-result}
 use Rattle.model.proofs.NumberLaws.{numbers-small}
 use Rattle.model.proofs.SheetLaws.{worth-on, numbers-on}
@@ -180,7 +180,7 @@ sheet-demand3 book b c t past e p =
             numbers-on b c t (sheetBytes b c t ++ past) past refl (numbers-small (b .loads) c (good .loads .labels) (sound .0)) noSetting k (omega arith);
         worth = worth-on b c t (sheetBytes b c t ++ past) past refl (worth-small b c good (sound .0));
       };
-      runs = choices-run book b e c .0 (sound .0) .1;
+      runs = book-runs book b e c (sound .0);
       worth = λ other m h.
           plan-worth b c p other m
           (keeps-all (N b) (b .fineness) 0 (b .limits) other

@@ -1,6 +1,6 @@
 -- What is known of a value that holds a valid book, and of the settings that it holds.
 -- Assumes nothing.
-use mathlib.Core.Path.{_≡_, sym, ap, subst, _∙_}
+use mathlib.Core.Path.{_≡_, refl, sym, ap, subst, _∙_}
 use mathlib.Core.List.{[], map}
 use Prim.Native.Nat.{ℕ, _+_, _*_, _<_, _≤_}
 use native.Mathlib.Omega.{arith}
@@ -10,7 +10,7 @@ use Rattle.model.specs.declared.Load.{Load}
 use Rattle.model.specs.Lists.{Every, upto}
 use Rattle.model.specs.Bounds.{mostLoads}
 use Rattle.model.specs.Book.{Settings, Problem, Power}
-use Rattle.model.specs.Choice.{settingOf, powerIn}
+use Rattle.model.specs.Choice.{settingOf, leastOf, powerIn}
 use Rattle.model.specs.Valid.{ValidBook, SettingSmall}
 use Rattle.model.specs.Values.{Held, loadValue, bookValue, problemOf, powerOf, raised}
 use Rattle.model.proofs.ListLaws.{every-at, every-getD}
@@ -18,6 +18,10 @@ use Rattle.model.proofs.UptoLaws.{getD-upto}
 use Rattle.model.proofs.ValueLaws.{held-kept, power-at}
 
 -- ---- the book
+
+-- what the logic reads past the end of the loads
+abbrev pub noLoad : Load
+noLoad = record { least = 0; settings = 0; worths = []; actives = []; reactives = [] }
 
 module _ (v : Book) (h : Held v) where
   pub held-valid : ValidBook (problemOf v)
@@ -53,7 +57,18 @@ module _ (v : Book) (h : Held v) where
   held-load k d l =
       ap (λ (x : Book). getD (x .loads) k d) held-is ∙ getD-upto (λ i. loadValue (getD (problemOf v .loads) i [])) mostLoads k d l
 
+  pub held-at : (k : ℕ) (d : Load) → k < v .count → getD (v .loads) k d ≡ loadValue (getD (problemOf v .loads) k [])
+  held-at k d l = held-load k d (omega (arith, held-few))
+
 -- ---- settings
+
+pub value-least : (vs : Settings) → loadValue vs .least ≡ leastOf vs
+unfolding loadValue
+value-least vs = refl
+
+pub value-count : (vs : Settings) → loadValue vs .settings ≡ length vs
+unfolding loadValue
+value-count vs = refl
 
 pub loads-small : (b : Problem) → ValidBook b → (k : ℕ) → Every SettingSmall (getD (b .loads) k [])
 loads-small b valid k = every-getD (Every SettingSmall) (b .loads) [] tt (valid .loads .small) k

@@ -19,10 +19,10 @@ pub mod TableLaws
 pub mod LoopLaws
 pub mod RowLaws
 pub mod ValidLaws
-pub mod MustRunLaws
 pub mod SheetLaws
 pub mod CodeLaws
 pub mod QuickLaws
+pub mod MustRunLaws
 pub mod SheetGivenLaws
 pub mod PlainLaws
 pub mod DemandLaws

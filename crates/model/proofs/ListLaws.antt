@@ -139,10 +139,6 @@ module _ {A : Type 0} where
   every-of-mem P [] f = tt
   every-of-mem P (x ∷ xs) f = (f x (inl refl), every-of-mem P xs (λ y m. f y (inr m)))
 
-  pub every-if : (P : A → Type 0) (t : Bool) (x : A) (xs : List A) → P x → Every P xs → Every P (keepIf t x xs)
-  every-if P true x xs a h = (a, h)
-  every-if P false x xs a h = h
-
   pub every-keep : (P : A → Type 0) (p : A → Bool) (xs : List A) → Every P xs → Every (λ x. P x × T (p x)) (keep p xs)
   every-keep P p [] h = tt
   every-keep P p (x ∷ xs) h = go (p x) refl (every-keep P p xs (h .1))

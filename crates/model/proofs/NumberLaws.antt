@@ -16,12 +16,13 @@ use Rattle.model.specs.Book.{Setting, Settings}
 use Rattle.model.specs.Choice.{Choice, IsChoice, settingNumbered, noSetting, settingOr, settingOf, firstSetting, leastOf}
 use Rattle.model.specs.Valid.{Numbered, Labelled, SettingSmall}
 use Rattle.model.specs.Values.{Offers}
-use Rattle.model.proofs.ListLaws.{every-at}
+use Rattle.model.proofs.ListLaws.{every-mem}
 use Rattle.model.proofs.UptoLaws.{suc-across}
 use Rattle.model.proofs.ChoiceLaws.{choice-every}
 
 -- ---- numbers from i on
 
+-- the setting at place k has number i + k
 pub numbered-at : (i : ℕ) (vs : Settings) → Numbered i vs → (k : ℕ) → k < length vs → i + k ≡ getD vs k noSetting .number
 numbered-at i [] h k l = absurd (omega arith)
 numbered-at i (v ∷ vs) h zero l = omega (arith, h .0)
@@ -35,7 +36,7 @@ number-from i (u ∷ vs) v h (inr m) =
     (omega (arith, k .0), omega (arith, k .1))
 
 -- a setting is found by its number
-pub found : (i : ℕ) (vs : Settings) (v : Setting) → Numbered i vs → Mem v vs → settingNumbered (v .number) vs ≡ some v
+found : (i : ℕ) (vs : Settings) (v : Setting) → Numbered i vs → Mem v vs → settingNumbered (v .number) vs ≡ some v
 found i [] v h m = absurd m
 found i (u ∷ vs) v h (inl e) =
     ap (λ t. cond t (some u) (settingNumbered (v .number) vs)) (eq-eqb (u .number) (v .number) (ap (λ (x : Setting). x .number) (sym e)))
@@ -71,14 +72,14 @@ member-at [] k h = absurd (omega arith)
 member-at (v ∷ vs) zero h = inl refl
 member-at (v ∷ vs) (suc k) h = inr (member-at vs k (le-of-suc-le-suc h))
 
--- the setting at place k has number i + k
+-- setting i + k is the one at place k
 pub numbered-of : (i : ℕ) (vs : Settings) → Numbered i vs → (k : ℕ) → k < length vs → settingOf vs (i + k) ≡ getD vs k noSetting
 unfolding settingOf
 numbered-of i vs h k l =
     ap (λ n. settingOr (settingNumbered n vs)) (numbered-at i vs h k l) ∙ ap settingOr (found i vs (getD vs k noSetting) h (member-at vs k l))
 
 -- a property of each setting holds of the one with any number
-pub every-of : (P : Setting → Type 0) → P noSetting → (vs : Settings) → Every P vs → (c : ℕ) → P (settingOf vs c)
+every-of : (P : Setting → Type 0) → P noSetting → (vs : Settings) → Every P vs → (c : ℕ) → P (settingOf vs c)
 unfolding settingOf
 every-of P d [] h c = d
 every-of P d (v ∷ vs) h c = go (eqb (v .number) c) (every-of P d vs (h .1) c)
@@ -100,9 +101,9 @@ numbered-least i [] n h = absurd (omega arith)
 numbered-least i (v ∷ vs) n h = n .0
 
 -- numbers from 0 or 1 up to 3 at most are a load's
-pub labelled-from : (i : ℕ) (vs : Settings) → Numbered i vs → i ≤ 1 → 0 < length vs → 1 < i + length vs → i + length vs ≤ 4 → Labelled vs
-labelled-from i vs n low here several few =
-    let e : leastOf vs ≡ i = numbered-least i vs n here in
+pub labelled-from : (i : ℕ) (vs : Settings) → Numbered i vs → i ≤ 1 → 1 < i + length vs → i + length vs ≤ 4 → Labelled vs
+labelled-from i vs n low several few =
+    let e : leastOf vs ≡ i = numbered-least i vs n (omega arith) in
     record {
       numbered = subst (λ j. Numbered j vs) (sym e) n;
       least = omega arith;
@@ -122,17 +123,13 @@ module _ (vs : Settings) (h : Labelled vs) where
 
   -- the setting with the least number is the first
   pub least-first : settingOf vs (leastOf vs) ≡ firstSetting vs
-  least-first = ap (settingOf vs) (sym (add-zero (leastOf vs))) ∙ at-place 0 (omega (arith, h .least, h .several)) ∙ head vs
-    where
-      head : (us : Settings) → getD us 0 noSetting ≡ firstSetting us
-      head [] = refl
-      head (u ∷ us) = refl
+  least-first = ap (settingOf vs) (sym (add-zero (leastOf vs))) ∙ at-place 0 (omega (arith, h .least, h .several))
 
   module _ (c : ℕ) (o : Offers vs c) where
     place-fits : c - leastOf vs < length vs
     place-fits = omega (arith, o)
 
-    pub offered-at : settingOf vs c ≡ getD vs (c - leastOf vs) noSetting
+    offered-at : settingOf vs c ≡ getD vs (c - leastOf vs) noSetting
     offered-at =
         let e : c ≡ leastOf vs + (c - leastOf vs) = omega (arith, o) in
         ap (settingOf vs) e ∙ at-place (c - leastOf vs) place-fits
@@ -161,7 +158,7 @@ module _ (vs : Settings) (h : Labelled vs) where
 
 -- a property of each setting holds of the one with an offered number
 pub every-offered : (P : Setting → Type 0) (vs : Settings) → Labelled vs → Every P vs → (c : ℕ) → Offers vs c → P (settingOf vs c)
-every-offered P vs h k c o = subst P (sym (offered-at vs h c o)) (every-at P vs noSetting k (c - leastOf vs) (omega (arith, o)))
+every-offered P vs h k c o = every-mem P (settingOf vs c) vs (offered-mem vs h c o) k
 
 pub number-small : (vs : Settings) (v : Setting) → Labelled vs → Mem v vs → v .number < 4
 number-small vs v h m = offered-few vs h (v .number) (member-offered vs h v m)

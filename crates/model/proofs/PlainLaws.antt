@@ -26,11 +26,11 @@ abbrev pub Plain : ℕ → List ℕ → Type 0
 Plain zero bytes = Unit {0}
 Plain (suc left) bytes = (field (lineOf bytes) 0 2 ≡ 2) × Plain left (afterLine bytes)
 
--- a load that draws nothing while it stands
+-- a load whose first setting draws nothing
 abbrev Still : Settings → Type 0
 Still vs = (slot : ℕ) → powerIn slot (firstSetting vs) ≡ noPower
 
--- its load may stand
+-- a line of kind `02`: its load may stand, and then draws nothing
 plain-settings : (t : ℕ) (line : List ℕ) → field line 0 2 ≡ 2 → settings t line ≡ standing t line ∷ options t line
 unfolding mustRun
 plain-settings t line e = ap (λ k. keepIf (not (eqb k 7)) (standing t line) (options t line)) e

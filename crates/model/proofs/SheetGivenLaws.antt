@@ -1,9 +1,9 @@
 -- When the planner gives a sheet, and when refusal 17, in both directions; that no choice keeps the limits where it gives 17, that there is a sheet where the
--- quick planner's start keeps them, and that the quick planner gives 17 where the planner does.
+-- quick planner's start keeps them, when the quick planner gives 17, and that it does where the planner does.
 -- Assumes nothing.
 use mathlib.Core.Path.{_≡_, refl, sym, ap, _∙_, subst}
 use mathlib.Core.Bool.{Bool, true, false}
-use mathlib.Core.Logic.{_⊎_, inl, inr}
+use mathlib.Core.Logic.{_⊎_, inl, inr, _↔_}
 use mathlib.Core.List.{List, [], _∷_}
 use mathlib.Core.Option.{Option, none, some}
 use Prim.Native.Nat.{ℕ, _<_, _≤_}
@@ -28,10 +28,11 @@ use Rattle.model.specs.Quick.{firstSettings, quickSheet, quickResult}
 use Rattle.model.specs.Valid.{ValidBook}
 use Rattle.model.specs.Demand.{Past12, SomeAdmitted, Answered}
 use Rattle.model.specs.Answers.{answerOf}
+use Rattle.model.proofs.IntegerLaws.{split}
 use Rattle.model.proofs.RefusalLaws.{number-some, NoneApplies, first-passed, first-none, first-most, RulesMost, NumberMost}
 use Rattle.model.proofs.AdmissionLaws.{slots-for, keeps-admitted, admitted-is}
 use Rattle.model.proofs.PlanLaws.{chosen-length, plan-is, plan-none}
-use Rattle.model.proofs.QuickLaws.{firsts-chosen, quick-over}
+use Rattle.model.proofs.QuickLaws.{firsts-chosen, quick-short, quick-over, quick-given}
 use Rattle.model.proofs.ValidLaws.{book-valid, book-most}
 
 -- a number that refusals 1 to 12 do not have
@@ -164,10 +165,29 @@ firsts-over b valid n = go (keepsLimits (slotsOf b) (firstSettings b)) refl
     go false e = refl
     go true e = absurd (n (keeps-some b (firstSettings b) (firsts-chosen b valid) (subst T (sym e) tt)))
 
+-- THE QUICK PLANNER GIVES 17 exactly where none of 1 to 8 and 11 applies and its start breaks a limit
+pub quick-exactly : (book : List ℕ) (room : ℕ) → (answerOf (quickResult book room) .number ≡ 17)
+    ↔ ((b : Problem) × (readBook book ≡ done b) × (sheetLength b ≤ room) × (keepsLimits (slotsOf b) (firstSettings b) ≡ false))
+unfolding quickResult
+quick-exactly book room =
+    (at-book (readBook book) refl (book-most book), λ x. ap (λ r. answerOf (andThen r (quickSheet room)) .number) (x .1) ∙ ap (λ r. answerOf r .number) (quick-over (x .0) room (x .2) (x .3)))
+  where
+    at-start : (b : Problem) → sheetLength b ≤ room → (t : Bool) → keepsLimits (slotsOf b) (firstSettings b) ≡ t → answerOf (quickSheet room b) .number ≡ 17 → t ≡ false
+    at-start b l false q e = refl
+    at-start b l true q e = absurd (omega (arith, e, ap (λ r. answerOf r .number) (quick-given b room l q)))
+
+    at-room : (b : Problem) → (room < sheetLength b) ⊎ (sheetLength b ≤ room) → answerOf (quickSheet room b) .number ≡ 17
+        → (sheetLength b ≤ room) × (keepsLimits (slotsOf b) (firstSettings b) ≡ false)
+    at-room b (inl l) e = absurd (omega (arith, e, ap (λ r. answerOf r .number) (quick-short b room l)))
+    at-room b (inr l) e = (l, at-start b l (keepsLimits (slotsOf b) (firstSettings b)) refl e)
+
+    at-book : (x : Result Problem) → readBook book ≡ x → NumberMost 8 x → answerOf (andThen x (quickSheet room)) .number ≡ 17
+        → (b : Problem) × (readBook book ≡ done b) × (sheetLength b ≤ room) × (keepsLimits (slotsOf b) (firstSettings b) ≡ false)
+    at-book (refused r line) q h e = absurd (omega arith)
+    at-book (done b) q h e = let x = at-room b (split room (sheetLength b)) e in (b, q, x .0, x .1)
+
 -- WHERE THE PLANNER GIVES 17, the quick planner gives it too, with room for as many bytes
 pub quick-none : (book : List ℕ) (words room : ℕ) → answerOf (plannerResult book words room) .number ≡ 17 → answerOf (quickResult book room) .number ≡ 17
-unfolding quickResult
 quick-none book words room e =
     let x = answered book words room .no-plan-only e in
-    ap (λ r. answerOf (andThen r (quickSheet room)) .number) (x .1 .reads)
-    ∙ ap (λ r. answerOf r .number) (quick-over (x .0) room (x .1 .long) (firsts-over (x .0) (book-valid book (x .0) (x .1 .reads)) (x .2)))
+    quick-exactly book room .1 (x .0, x .1 .reads, x .1 .long, firsts-over (x .0) (book-valid book (x .0) (x .1 .reads)) (x .2))

@@ -15,12 +15,14 @@ use Rattle.model.specs.Bounds.{mostLoads, mostFineness}
 use Rattle.model.specs.Frames.{field, lineOf, afterLine}
 use Rattle.model.specs.Refusals.{Result, done, first, andThen}
 use Rattle.model.specs.Book.{Power, noPower, Setting, Settings, Problem, slotCount, loadCount, finenessIn, problem, optionCount, standingPairs, mustRun, optionStart, powerAt, optionOn, options, standingPower, standing, settings, lineRule, headerRules, reactiveExceeds, someExceeds, loadRules, endRules, readLoads, readBook}
+use Rattle.model.specs.Choice.{leastOf}
+use Rattle.model.specs.MustRun.{leastNumber}
 use Rattle.model.specs.Valid.{SettingKept, Numbered, Labelled, SettingSmall, ValidLoads, ValidBook}
-use Rattle.model.proofs.ListLaws.{both-true, within-is, every-if, every-imp, every-image, every-getD, any-false}
+use Rattle.model.proofs.ListLaws.{both-true, within-is, every-at, every-imp, every-image, every-getD, any-false}
 use Rattle.model.proofs.UptoLaws.{length-upto}
 use Rattle.model.proofs.FrameLaws.{field-below, signed-small}
 use Rattle.model.proofs.RefusalLaws.{done-same, checked-done, then-done, NoneApplies, first-passed, RulesMost, NumberMost, checked-most, then-most}
-use Rattle.model.proofs.NumberLaws.{labelled-from}
+use Rattle.model.proofs.NumberLaws.{numbered-least, labelled-from}
 
 -- ---- the settings that a line gives
 
@@ -45,20 +47,41 @@ options-numbered t line = numbered-options (optionOn t line) (λ j. refl) 0 (opt
 pub options-length : (t : ℕ) (line : List ℕ) → length (options t line) ≡ optionCount line
 options-length t line = length-upto (optionOn t line) (optionCount line)
 
+-- by cases: a load that must run has its options, any other has standing before them
+pub settings-by : (P : Bool → Settings → Type 0) (t : ℕ) (line : List ℕ) → (mustRun line ≡ true → P true (options t line))
+    → (mustRun line ≡ false → P false (standing t line ∷ options t line)) → P (mustRun line) (settings t line)
+settings-by P t line required free = go (mustRun line) refl
+  where
+    go : (b : Bool) → mustRun line ≡ b → P b (keepIf (not b) (standing t line) (options t line))
+    go true e = required e
+    go false e = free e
+
+-- how many they are, and which number is the first
+pub length-settings : (t : ℕ) (line : List ℕ) → leastNumber line + length (settings t line) ≡ optionCount line + 1
+unfolding leastNumber
+length-settings t line =
+    settings-by (λ b vs. cond b 1 0 + length vs ≡ optionCount line + 1) t line
+    (λ e. omega (arith, options-length t line)) (λ e. omega (arith, options-length t line))
+
+pub least-settings : (t : ℕ) (line : List ℕ) → 1 ≤ optionCount line → leastOf (settings t line) ≡ leastNumber line
+unfolding leastNumber
+least-settings t line h =
+    settings-by (λ b vs. leastOf vs ≡ cond b 1 0) t line
+    (λ e. numbered-least 1 (options t line) (options-numbered t line) (omega (arith, options-length t line))) (λ e. refl)
+
 labelled-settings : (t : ℕ) (line : List ℕ) → within 1 3 (optionCount line) ≡ true → Labelled (settings t line)
 labelled-settings t line e =
     let n : (1 ≤ optionCount line) × (optionCount line ≤ 3) = within-is 1 3 (optionCount line) e in
-    go (mustRun line) (omega (arith, n .0, options-length t line)) (omega (arith, n .1, options-length t line))
-  where
-    go : (b : Bool) → 1 ≤ length (options t line) → length (options t line) ≤ 3 → Labelled (keepIf (not b) (standing t line) (options t line))
-    go true some few = labelled-from 1 (options t line) (options-numbered t line) (omega arith) (omega arith) (omega arith) (omega arith)
-    go false some few =
-        labelled-from 0 (standing t line ∷ options t line) (refl, options-numbered t line) (omega arith) (omega arith) (omega arith) (omega arith)
+    let l : length (options t line) ≡ optionCount line = options-length t line in
+    settings-by (λ b. Labelled) t line
+    (λ q. labelled-from 1 (options t line) (options-numbered t line) (omega arith) (omega (arith, n .0)) (omega (arith, n .1)))
+    (λ q. labelled-from 0 (standing t line ∷ options t line) (refl, options-numbered t line) (omega arith) (omega (arith, n .0)) (omega (arith, n .1)))
 
 -- a property of standing and of the options
 every-setting : (P : Setting → Type 0) (t : ℕ) (line : List ℕ) → P (standing t line) → ((j : ℕ) → P (optionOn t line j)) → Every P (settings t line)
 every-setting P t line a h =
-    every-if P (not (mustRun line)) (standing t line) (options t line) a (every-image P (optionOn t line) (upto (optionCount line)) h)
+    let each : Every P (options t line) = every-image P (optionOn t line) (upto (optionCount line)) h in
+    settings-by (λ b. Every P) t line (λ e. each) (λ e. (a, each))
 
 pub sized-settings : (t : ℕ) (line : List ℕ) → Every (λ v. length (v .powers) ≡ t) (settings t line)
 sized-settings t line =
@@ -210,6 +233,9 @@ module _ (bytes : List ℕ) (b : Problem) (e : readBook bytes ≡ done b) where
         limits-small = subst (λ (x : Problem). Every (λ s. s < 65536) (x .limits)) (r .same)
             (every-image (λ s. s < 65536) (λ s. field line (16 + 4 * s) 4) (upto (slotCount line)) (λ s. field-below line (16 + 4 * s) 4));
       }
+
+pub load-labelled : {b : Problem} → ValidBook b → (k : ℕ) → k < length (b .loads) → Labelled (getD (b .loads) k [])
+load-labelled {b} valid k l = every-at Labelled (b .loads) [] (valid .loads .labels) k l
 
 -- ---- the reader's refusals are 1 to 8
 

@@ -21,7 +21,7 @@ use Rattle.model.proofs.ListLaws.{every-at}
 use Rattle.model.proofs.UptoLaws.{getD-upto, take-upto, from-is, upto-is}
 use Rattle.model.proofs.IntegerLaws.{split, sub-pos, sub-neg, abs-sub}
 use Rattle.model.proofs.NumberLaws.{at-place, offered-number, offered-few, every-offered, setting-small}
-use Rattle.model.proofs.ValidLaws.{book-valid}
+use Rattle.model.proofs.ValidLaws.{book-valid, load-labelled}
 
 pub raised-back : (q : ℤ) → natAbs q ≤ 32768 → lowered (raised q) ≡ q
 unfolding raised
@@ -105,7 +105,7 @@ valid-kept b g =
     ∙ map-map (settingsIn (length (b .limits))) (λ k. loadValue (getD (b .loads) k [])) (upto (length (b .loads)))
     ∙ upto-is (λ k. settingsIn (length (b .limits)) (loadValue (getD (b .loads) k []))) (b .loads) [] (λ k l.
     value-kept (length (b .limits)) (getD (b .loads) k []) (g .slots-few)
-    (every-at Labelled (b .loads) [] (g .loads .labels) k l)
+    (load-labelled g k l)
     (every-at (Every (λ v. length (v .powers) ≡ length (b .limits))) (b .loads) [] (g .loads .powers) k l)
     (every-at (Every SettingSmall) (b .loads) [] (g .loads .small) k l)) in
     λ i. record { fineness = b .fineness; budget = b .budget; limits = limits-are i; loads = loads-are i }

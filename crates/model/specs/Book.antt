@@ -110,8 +110,7 @@ standingPower t line s = cond (ltb s (standingPairs t line)) (powerAt line (4 + 
 abbrev pub standing : ℕ → List ℕ → Setting
 standing t line = record { number = 0; worth = 0; powers = map (standingPower t line) (upto t) }
 
--- "a number c from 0 to its o": standing, then the options; M-105: a load that must run "has no choice 0" (what that says of choices: proofs/MustRunLaws,
--- `choices-run`)
+-- "a number c from 0 to its o": standing, then the options; M-105: a load that must run "has no choice 0" (what that says of choices: MustRun, `ChoicesRun`)
 abbrev pub settings : ℕ → List ℕ → Settings
 settings t line = keepIf (not (mustRun line)) (standing t line) (options t line)
 

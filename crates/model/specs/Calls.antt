@@ -30,7 +30,8 @@ unfoldable pub fittingBook : List ℕ → ℕ → ℕ → Result Problem
 fittingBook bytes words room = andThen (readBook bytes) (fitting words room)
 
 -- 17 (document 02, M-104): "when no choice is admitted", as "All standing may now break a limit"; document 01's "The choice of all standing always is"
--- went with that; M-105: when none is admitted of "the choices that run every such load", as the book has no others. "numbers from 14 on carry line 0". Else the plan's sheet: "The result carries the planner's count, and it equals this number"
+-- went with that; M-105: when none is admitted of "the choices that run every such load", as a book has no others. "numbers from 14 on carry line 0".
+-- Else the plan's sheet: "The result carries the planner's count, and it equals this number"
 abbrev pub planned : Problem → Option Choice → Result Output
 planned b none = refused NoPlan 0
 planned b (some c) = done (sheetOf b c (trials b))

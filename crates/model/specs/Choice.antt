@@ -73,8 +73,7 @@ runningOn c k = not (eqb (levelOn c k) 0)
 
 -- the first setting of a load; every load that is read has one
 abbrev pub firstSetting : Settings → Setting
-firstSetting [] = noSetting
-firstSetting (v ∷ vs) = v
+firstSetting vs = getD vs 0 noSetting
 
 -- the least number that a load's settings have, as they go by ascending number: 0, or 1 for a load that must run
 abbrev pub leastOf : Settings → ℕ

@@ -5,10 +5,10 @@ use mathlib.Core.Path.{_≡_}
 use mathlib.Core.List.{List}
 use lib.ListN.{length, getD}
 use Rattle.model.specs.Bounds.{mostCells}
-use Rattle.model.specs.Frames.{field}
+use Rattle.model.specs.Frames.{field, afterLine}
 use Rattle.model.specs.Refusals.{done}
 use Rattle.model.specs.Book.{Problem, readBook}
-use Rattle.model.specs.MustRun.{RunsAll}
+use Rattle.model.specs.MustRun.{RunsRequired}
 use Rattle.model.specs.Grid.{slotsOf, Admitted}
 use Rattle.model.specs.Trials.{cells, neededWords, trials}
 use Rattle.model.specs.Sheet.{sheetLength}
@@ -75,9 +75,9 @@ pub record Demand3 (book sheet : List ℕ) : Type 0 where
   pub choice : Choice
   pub on-sheet : OnSheet b sheet choice
   -- it runs every load that must run
-  pub runs : RunsAll book choice
+  pub runs : RunsRequired (afterLine book) choice
   -- "the sheet's choice is worth at least as much as every other choice that keeps P² + Q² ≤ S² in every slot"; M-104: "among choices summed this way";
-  -- M-105: "among the choices that run every such load"
+  -- M-105: "among the choices that run every such load", which these are (MustRun, `ChoicesRun`)
   pub worth : (other : Choice) → IsChoice (b .loads) other → ((slot : ℕ) → slot < T b → apparentSquaredIn slot other ≤ square (S b slot))
       → worthOf other ≤ worthOf choice
   -- the next three have no condition on other choices: "whether or not another choice keeps the limits"

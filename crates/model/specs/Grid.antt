@@ -1,4 +1,4 @@
--- The grid, admission and the plan (document 01, "Choice, sums and grid"; document 02, M-104).
+-- The grid, admission and the plan (document 01, "Choice, sums and grid"; document 02, M-104 and M-105).
 use Prim.Native.Nat.{ℕ, suc, _+_, _*_, _-_, _/_, _<_, _≤_, max}
 use mathlib.Core.Path.{_≡_}
 use mathlib.Core.Logic.{_⊎_}
@@ -114,7 +114,8 @@ best (c ∷ cs) = betterOf c (best cs)
 unfoldable pub bestAdmitted : List Slot → List Settings → Option Choice
 bestAdmitted slots loads = best (keep (admitted slots) (choices loads))
 
--- "The plan is the admitted choice of greatest worth; among equals, the smallest code"
+-- "The plan is the admitted choice of greatest worth; among equals, the smallest code"; M-105: "best .. among the choices that run every such load", as a book
+-- has no others (MustRun, `ChoicesRun`)
 unfoldable pub plan : Problem → Option Choice
 plan b = bestAdmitted (slotsOf b) (b .loads)
 

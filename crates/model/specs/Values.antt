@@ -72,9 +72,13 @@ pub record Held (v : Book) : Type 0 where
   pub valid : ValidBook b
   pub is : v ≡ bookValue b
 
--- the choice whose number c of load k + 1 stands at place k of an array
+-- the setting of load k + 1 whose number c stands at place k of an array
+abbrev pub pickOf : Problem → List ℕ → ℕ → Setting
+pickOf b picks k = settingOf (getD (b .loads) k []) (getD picks k 0)
+
+-- the choice whose numbers stand in an array
 unfoldable pub choiceOf : Problem → List ℕ → Choice
-choiceOf b picks = map (λ k. settingOf (getD (b .loads) k []) (getD picks k 0)) (upto (length (b .loads)))
+choiceOf b picks = map (pickOf b picks) (upto (length (b .loads)))
 
 -- c is the number of one of a load's settings, as these go from its least on
 abbrev pub Offers : Settings → ℕ → Type 0

@@ -65,8 +65,9 @@ pub struct OrderAnswer {
     pub stops: u64,
 }
 
-// A load: its settings have the numbers from `least` on; standing is setting 0, the options are the settings from 1 on. Setting c has
-// worths[c] and, in slot s, the active power actives[4 c + s] and the reactive power reactives[4 c + s] - 32,768.
+// A load: it has `settings` settings, with the numbers from `least` on; standing is number 0, the options are 1 and up. Setting c has
+// worths[c] and, in slot s, the active power actives[4 c + s] and the reactive power reactives[4 c + s] - 32,768. Where `least` is 1,
+// the places of setting 0 hold no worth and no power.
 pub struct Load {
     pub least: usize,
     pub settings: usize,

@@ -11,13 +11,14 @@ use Rattle.model.specs.declared.Book.{Book}
 use Rattle.model.specs.declared.Load.{Load}
 use Rattle.model.specs.Lists.{Every}
 use Rattle.model.specs.Grid.{Slot}
-use Rattle.model.specs.Valid.{Labelled, SettingSmall}
+use Rattle.model.specs.Valid.{SettingSmall}
 use Rattle.model.specs.Values.{Held, problemOf}
 use Rattle.model.specs.Choice.{noSetting, settingOf, leastOf}
 use Rattle.model.specs.Bounds.{mostLoads}
 use Rattle.model.proofs.ListLaws.{every-at}
 use Rattle.model.proofs.NumberLaws.{numbered-at, at-place}
-use Rattle.model.proofs.HeldLaws.{held-valid, held-count, held-few, held-load}
+use Rattle.model.proofs.ValidLaws.{load-labelled}
+use Rattle.model.proofs.HeldLaws.{held-valid, held-count, held-at}
 use Rattle.stretch.specs.declared.SettingMove.{SettingMove}
 use Rattle.stretch.specs.Stretch.{noMove}
 use Rattle.moves.specs.Moves.{MoveIs, LoadIs, LoadHeld}
@@ -45,8 +46,8 @@ unfoldable pub load-held : (v : Book) (h : Held v) (k : ℕ) (d : Load) → k < 
 load-held v h k d l =
     record {
       settings = getD (problemOf v .loads) k [];
-      is = held-load v h k d (omega (arith, held-few v h));
-      labels = every-at Labelled (problemOf v .loads) [] (held-valid v h .loads .labels) k (omega (arith, held-count v h));
+      is = held-at v h k d l;
+      labels = load-labelled (held-valid v h) k (omega (arith, held-count v h));
       small = every-at (Every SettingSmall) (problemOf v .loads) [] (held-valid v h .loads .small) k (omega (arith, held-count v h));
     }
 

@@ -1,4 +1,3 @@
 -- Laws that the functions' proofs cite.
 pub mod OrderLaws
 pub mod TrackLaws
-pub mod SheetLaws

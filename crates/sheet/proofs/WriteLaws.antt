@@ -13,7 +13,7 @@ use Rattle.model.specs.Choice.{Choice, IsChoice, worthOf, sumIn, noSetting}
 use Rattle.model.specs.Answers.{bufferAfter}
 use Rattle.model.specs.Sheet.{firstLine, sumsAndLimits, slotLines, sheetBytes, sheetLength, sheetOf}
 use Rattle.model.specs.Valid.{ValidBook}
-use Rattle.model.specs.Values.{Held, Picked, choiceOf, problemOf}
+use Rattle.model.specs.Values.{Held, Picked, pickOf, choiceOf, problemOf}
 use Rattle.model.proofs.UptoLaws.{getD-upto}
 use Rattle.model.proofs.PlanLaws.{chosen-length}
 use Rattle.model.proofs.SheetLaws.{length-first, length-slot-lines, sheet-length}
@@ -25,7 +25,7 @@ use Rattle.hex.proofs.WrittenLaws.{written-start, then-written}
 use Rattle.sums.specs.declared.Sums.{Sums}
 use Rattle.sums.specs.Sums.{sumsValue}
 use Rattle.sums.proofs.SumsLaws.{sums-active, sums-reactive, choice-sums}
-use Rattle.sums.proofs.PickLaws.{pickOf, picked-choice, pick-number}
+use Rattle.sums.proofs.PickLaws.{picked-choice, pick-number}
 use Rattle.lines.specs.Lines.{firstBytes, slotsBytes}
 use Rattle.lines.proofs.LineLaws.{first-is, slots-are}
 

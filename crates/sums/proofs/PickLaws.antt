@@ -12,20 +12,18 @@ use Rattle.model.specs.declared.Book.{Book}
 use Rattle.model.specs.Lists.{Mem, Every, uptoFrom, upto}
 use Rattle.model.specs.Book.{Setting, Settings, Problem}
 use Rattle.model.specs.Choice.{Choice, IsChoice, worthOf, codeOf, settingOf}
-use Rattle.model.specs.Valid.{Labelled, SettingSmall, ValidBook}
-use Rattle.model.specs.Values.{Held, problemOf, loadValue, choiceOf, Picked}
+use Rattle.model.specs.Valid.{SettingSmall, ValidBook}
+use Rattle.model.specs.Values.{Held, problemOf, loadValue, pickOf, choiceOf, Picked}
 use Rattle.model.specs.Bounds.{mostLoads}
-use Rattle.model.proofs.ListLaws.{every-imp, every-at, every-image}
+use Rattle.model.proofs.ListLaws.{every-imp, every-image}
 use Rattle.model.proofs.UptoLaws.{suc-across, upto-last, length-upto, getD-upto}
 use Rattle.model.proofs.ChoiceLaws.{snoc, worth-last, worth-most}
 use Rattle.model.proofs.NumberLaws.{setting-small, offered-mem, offered-number, offered-few}
-use Rattle.model.proofs.HeldLaws.{held-valid, held-count, held-few, held-load, loads-small}
+use Rattle.model.proofs.ValidLaws.{load-labelled}
+use Rattle.model.proofs.HeldLaws.{held-valid, held-count, held-few, held-at, loads-small}
 use Rattle.sums.specs.declared.Sums.{Sums}
 use Rattle.sums.specs.Sums.{sumsValue, added, CanAdd}
 use Rattle.sums.proofs.SumsLaws.{added-last, can-add}
-
-abbrev pub pickOf : Problem → List ℕ → ℕ → Setting
-pickOf b picks k = settingOf (getD (b .loads) k []) (getD picks k 0)
 
 -- the choice of the first k loads
 abbrev pub picksUpto : Problem → List ℕ → ℕ → Choice
@@ -72,9 +70,6 @@ choice-from (vs ∷ loads) f i h = (
       subst (λ j. Mem (f j) (getD loads k [])) (suc-across i k) (h (suc k) (omega arith))),
 )
 
-pub load-labelled : {b : Problem} → ValidBook b → (k : ℕ) → k < length (b .loads) → Labelled (getD (b .loads) k [])
-load-labelled {b} valid k l = every-at Labelled (b .loads) [] (valid .loads .labels) k l
-
 module _ (b : Problem) (picks : List ℕ) (valid : ValidBook b) (picked : Picked b picks) where
   pub picked-choice : IsChoice (b .loads) (choiceOf b picks)
   unfolding choiceOf
@@ -82,10 +77,10 @@ module _ (b : Problem) (picks : List ℕ) (valid : ValidBook b) (picked : Picked
       choice-from (b .loads) (pickOf b picks) 0 (λ k l.
       subst (λ j. Mem (pickOf b picks j) (getD (b .loads) k [])) (sym (zero-add k)) (offered-mem (getD (b .loads) k []) (load-labelled valid k l) (getD picks k 0) (picked k l)))
 
-  pub picks-small : (k : ℕ) → Every SettingSmall (picksUpto b picks k)
+  picks-small : (k : ℕ) → Every SettingSmall (picksUpto b picks k)
   picks-small k = every-image SettingSmall (pickOf b picks) (upto k) (λ i. setting-small (getD (b .loads) i []) (loads-small b valid i) (getD picks i 0))
 
-  pub pick-few : (k : ℕ) → k < length (b .loads) → getD picks k 0 < 4
+  pick-few : (k : ℕ) → k < length (b .loads) → getD picks k 0 < 4
   pick-few k l = offered-few (getD (b .loads) k []) (load-labelled valid k l) (getD picks k 0) (picked k l)
 
   pub pick-number : (k : ℕ) → k < length (b .loads) → pickOf b picks k .number ≡ getD picks k 0
@@ -133,9 +128,6 @@ module _ (book : Book) (h : Held book) (picks : List ℕ) (picked : Picked (prob
   inside : (k : ℕ) → k < book .count → k < length (problemOf book .loads)
   inside k l = omega (arith, held-count book h)
 
-  load-at : (k : ℕ) (d : Load) → k < book .count → getD (book .loads) k d ≡ loadValue (getD (problemOf book .loads) k [])
-  load-at k d l = held-load book h k d (omega (arith, held-few book h))
-
   pub held-pick : (k : ℕ) → k < book .count → getD picks k 0 < 4
   held-pick k l = pick-few (problemOf book) picks (held-valid book h) picked k (inside k l)
 
@@ -145,17 +137,17 @@ module _ (book : Book) (h : Held book) (picks : List ℕ) (picked : Picked (prob
 
   module _ (k : ℕ) (d : Load) (l : k < book .count) where
     pub held-can-add : (sums : Sums) → sums ≡ sumsValue (picksUpto (problemOf book) picks k) → CanAdd sums (getD (book .loads) k d) (getD picks k 0)
-    held-can-add sums e = rw (e, load-at k d l) (picks-can-add (problemOf book) picks (held-valid book h) picked k (inside k l))
+    held-can-add sums e = rw (e, held-at book h k d l) (picks-can-add (problemOf book) picks (held-valid book h) picked k (inside k l))
 
     pub held-sums : (sums : Sums) → sums ≡ sumsValue (picksUpto (problemOf book) picks k)
         → added sums (getD (book .loads) k d) (getD picks k 0) ≡ sumsValue (picksUpto (problemOf book) picks (k + 1))
     held-sums sums e =
-        ap₂ (λ s v. added s v (getD picks k 0)) e (load-at k d l) ∙ sums-more (problemOf book) picks (held-valid book h) picked k (inside k l)
+        ap₂ (λ s v. added s v (getD picks k 0)) e (held-at book h k d l) ∙ sums-more (problemOf book) picks (held-valid book h) picked k (inside k l)
 
     pub held-worth : (worth : ℕ) → worth ≡ worthOf (picksUpto (problemOf book) picks k)
         → worth + getD (getD (book .loads) k d .worths) (getD picks k 0) 0 ≡ worthOf (picksUpto (problemOf book) picks (k + 1))
     held-worth worth e =
-        ap₂ (λ w (v : Load). w + getD (v .worths) (getD picks k 0) 0) e (load-at k d l)
+        ap₂ (λ w (v : Load). w + getD (v .worths) (getD picks k 0) 0) e (held-at book h k d l)
         ∙ worth-more (problemOf book) picks (held-valid book h) picked k (inside k l)
 
     pub held-worth-small : worthOf (picksUpto (problemOf book) picks (k + 1)) ≤ mostLoads * 65535

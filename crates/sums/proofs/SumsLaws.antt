@@ -11,7 +11,7 @@ use Rattle.model.specs.Lists.{Mem, Every, upto}
 use Rattle.model.specs.Bounds.{mostLoads}
 use Rattle.model.specs.Book.{Power, Setting, Settings, Problem}
 use Rattle.model.specs.Choice.{Choice, IsChoice, noSetting, settingOf, leastOf, plus, powerIn, sumIn}
-use Rattle.model.specs.Valid.{Labelled, SettingSmall, ValidBook}
+use Rattle.model.specs.Valid.{SettingSmall, ValidBook}
 use Rattle.model.specs.Values.{raisedBy, loadValue}
 use Rattle.model.proofs.ListLaws.{every-at, every-set}
 use Rattle.model.proofs.UptoLaws.{getD-upto, upto-is}
@@ -21,7 +21,8 @@ use Rattle.model.proofs.QuickLaws.{sum-set}
 use Rattle.model.proofs.RaisedLaws.{raised-one, raised-plus, raised-most}
 use Rattle.model.proofs.SumLaws.{PowerSmall, power-small, sum-small, choice-small, choice-few}
 use Rattle.model.proofs.NumberLaws.{setting-small, offers-one, offered-mem}
-use Rattle.model.proofs.HeldLaws.{load-active, load-reactive, loads-small}
+use Rattle.model.proofs.ValidLaws.{load-labelled}
+use Rattle.model.proofs.HeldLaws.{load-active, load-reactive, loads-small, value-least}
 use Rattle.sums.specs.Sums.{sumsValue, shiftedIn, shifted, noPowers, added, exchanged, Small, SumsSmall, CanShift, CanAdd, CanExchange}
 
 -- ---- what an array holds for a sum x of n powers: P, or Q + 32,768 n
@@ -174,26 +175,22 @@ added-last c vs j small sized place =
 -- load k + 1 has its least setting
 module _ (c : Choice) (vs : Settings) (k : ℕ) (small : Every SettingSmall c) (sized : Every SettingSmall vs) (inside : k < length c)
     (few : leastOf vs < 4) (has : getD c k noSetting ≡ settingOf vs (leastOf vs)) where
-  least-is : loadValue vs .least ≡ leastOf vs
-  unfolding loadValue
-  least-is = refl
-
-  pub can-exchange : length c ≤ mostLoads → CanExchange (sumsValue c) (loadValue vs)
+  can-exchange : length c ≤ mostLoads → CanExchange (sumsValue c) (loadValue vs)
   unfolding sumsValue
   can-exchange n =
       record {
-        active = rw least-is (can-shift-set (actives-of vs sized) c small k (leastOf vs) inside few has n);
-        reactive = rw least-is (can-shift-set (reactives-of vs sized) c small k (leastOf vs) inside few has n);
+        active = rw (value-least vs) (can-shift-set (actives-of vs sized) c small k (leastOf vs) inside few has n);
+        reactive = rw (value-least vs) (can-shift-set (reactives-of vs sized) c small k (leastOf vs) inside few has n);
       }
 
-  pub exchanged-set : exchanged (sumsValue c) (loadValue vs) ≡ sumsValue (set c k (settingOf vs 1))
+  exchanged-set : exchanged (sumsValue c) (loadValue vs) ≡ sumsValue (set c k (settingOf vs 1))
   unfolding exchanged sumsValue
   exchanged-set =
-      cc (least-is, shifted-set (actives-of vs sized) c small k (leastOf vs) inside few has, shifted-set (reactives-of vs sized) c small k (leastOf vs) inside few has)
+      cc (value-least vs, shifted-set (actives-of vs sized) c small k (leastOf vs) inside few has, shifted-set (reactives-of vs sized) c small k (leastOf vs) inside few has)
 
 -- ---- choices of a valid book
 
-pub set-choice : (loads : List Settings) (c : Choice) (k : ℕ) (v : Setting) → IsChoice loads c → k < length loads → Mem v (getD loads k [])
+set-choice : (loads : List Settings) (c : Choice) (k : ℕ) (v : Setting) → IsChoice loads c → k < length loads → Mem v (getD loads k [])
     → IsChoice loads (set c k v)
 set-choice [] c k v m h n = absurd (omega arith)
 set-choice (vs ∷ loads) [] k v m h n = absurd m
@@ -207,11 +204,8 @@ module _ (b : Problem) (valid : ValidBook b) where
 
     -- load k + 1 has its least setting
     module _ (k : ℕ) (inside : k < length (b .loads)) (has : getD c k noSetting ≡ settingOf (getD (b .loads) k []) (leastOf (getD (b .loads) k []))) where
-      labelled : Labelled (getD (b .loads) k [])
-      labelled = every-at Labelled (b .loads) [] (valid .loads .labels) k inside
-
       least-few : leastOf (getD (b .loads) k []) < 4
-      least-few = omega (arith, labelled .least)
+      least-few = omega (arith, load-labelled valid k inside .least)
 
       pub choice-can-exchange : CanExchange (sumsValue c) (loadValue (getD (b .loads) k []))
       choice-can-exchange =
@@ -225,4 +219,4 @@ module _ (b : Problem) (valid : ValidBook b) where
       pub choice-set : IsChoice (b .loads) (set c k (settingOf (getD (b .loads) k []) 1))
       choice-set =
           set-choice (b .loads) c k (settingOf (getD (b .loads) k []) 1) chosen inside
-          (offered-mem (getD (b .loads) k []) labelled 1 (offers-one (getD (b .loads) k []) labelled))
+          (offered-mem (getD (b .loads) k []) (load-labelled valid k inside) 1 (offers-one (getD (b .loads) k []) (load-labelled valid k inside)))

@@ -32,19 +32,10 @@ pub fn start(book: &Book) -> Vec<usize> {
     book.loads.iter().map(|load| usize::from(load.must_run)).collect()
 }
 
-/// Where a case does not say otherwise, its book has one slot with a limit of 10, two loads and d = 5: L = 1, so that the grid
-/// values are the powers.
 #[cfg(test)]
 mod tests {
+    use crate::reference::test_books::*;
     use crate::reference::{Case, EXAMPLE};
-
-    /// The words and the bytes that two loads need: cells are 11 × 23.
-    const WORDS: usize = 4 * 11 * 23;
-    const SHEET: usize = 46;
-
-    fn two(loads: [&str; 2]) -> Case {
-        Case::new(format!("01010205FFFFFFFF000A\n{}\n{}\n", loads[0], loads[1]).into())
-    }
 
     /// Document 01's book, but this load must run.
     fn bench_with(k: usize) -> Case {
@@ -56,21 +47,8 @@ mod tests {
         Case::new(lines.enumerate().flat_map(of_kind).collect())
     }
 
-    /// The number and the line of the planner's answer, and the words that it leaves free.
-    fn planned(case: &Case, words: usize, buffer: usize) -> (u64, u64, usize) {
-        let outcome = case.plan(words, buffer);
-        (
-            outcome.answer.first.number,
-            outcome.answer.first.line,
-            outcome.free_words,
-        )
-    }
-
-    fn quick_number(case: &Case, buffer: usize) -> u64 {
-        case.quick(buffer).answer.first.number
-    }
-
-    /// Load 3 leaves no room for loads 1 and 2, which are worth more. Trials are 2 + 4 + 4: load 3 has one option and no more.
+    /// Load 3 leaves no room for loads 1 and 2 together, which are worth more. Trials are 2 + 4 + 4: load 3 has one
+    /// option and no more.
     #[test]
     fn a_better_choice_is_crowded_out() {
         let case = bench_with(3);
@@ -176,20 +154,14 @@ mod tests {
 
     #[test]
     fn refusals_of_lines() {
-        let refused_at = |header: &str, load: &str| {
-            let case = Case::new(format!("{header}\n{load}\n").into());
-            case.book
-                .map_or_else(|refusal| (refusal.number, refusal.line), |_| (0, 0))
-        };
-        let of_load = |load: &str| refused_at("01010101FFFFFFFF0010", load);
-        assert_eq!(of_load("070100010004FFFC"), (0, 0));
-        assert_eq!(of_load("070100010004FFFB"), (7, 2));
-        assert_eq!(of_load("070200010000000000010004FFFB"), (7, 2));
-        assert_eq!(of_load("070100000000000100000000"), (5, 2));
-        assert_eq!(of_load("0702000100000000"), (5, 2));
-        assert_eq!((of_load("0700"), of_load("0704")), ((4, 2), (4, 2)));
+        assert_eq!(load_refused_at("070100010004FFFC"), (0, 0));
+        assert_eq!(load_refused_at("070100010004FFFB"), (7, 2));
+        assert_eq!(load_refused_at("070200010000000000010004FFFB"), (7, 2));
+        assert_eq!(load_refused_at("070100000000000100000000"), (5, 2));
+        assert_eq!(load_refused_at("0702000100000000"), (5, 2));
+        assert_eq!((load_refused_at("0700"), load_refused_at("0704")), ((4, 2), (4, 2)));
         for kind in ["08", "17", "70"] {
-            assert_eq!(of_load(&format!("{kind}01000100000000")), (3, 2));
+            assert_eq!(load_refused_at(&format!("{kind}01000100000000")), (3, 2));
         }
         assert_eq!(refused_at("07010101FFFFFFFF0010", "0701000100000000"), (3, 1));
     }

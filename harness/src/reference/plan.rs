@@ -117,7 +117,7 @@ fn lists(book: &Book, slots: &[Slot], k: usize) -> u64 {
 /// By a map from each list of grid pairs to the best rank that reaches it, loads in order.
 ///
 /// Lists with a > R are dropped at once: a never falls, so no later H counts them, and aL > S, so none is admitted. None may be
-/// left, as standing draws too.
+/// left, as standing draws too, or loads must run.
 pub fn by_map(book: &Book) -> Planned {
     let slots = slots(book);
     let mut layer: HashMap<Pairs, Rank> = HashMap::from([(vec![(0, 0); slots.len()], (0, Reverse(0)))]);

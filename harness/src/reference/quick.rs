@@ -6,7 +6,7 @@ use super::must_run;
 
 /// The choice that the quick planner makes: option 1 or standing for each load; none where what it begins with breaks a limit.
 pub fn choice(book: &Book) -> Option<Vec<usize>> {
-    choice_in(book, &order(book))
+    fits(book, &must_run::start(book)).then(|| tried(book, &order(book)))
 }
 
 /// The loads in the order in which they are tried: by size, and among equals the lower number first.
@@ -16,16 +16,13 @@ pub fn order(book: &Book) -> Vec<usize> {
     order
 }
 
-/// The choice where the loads are tried in this order.
-pub fn choice_in(book: &Book, order: &[usize]) -> Option<Vec<usize>> {
+/// The choice after the loads are tried in this order, whether or not what it begins with keeps the limits.
+pub fn tried(book: &Book, order: &[usize]) -> Vec<usize> {
     let mut choice = must_run::start(book);
-    if !fits(book, &choice) {
-        return None;
-    }
     for &k in order {
         choice = taken(book, &choice, k).unwrap_or(choice);
     }
-    Some(choice)
+    choice
 }
 
 /// The choice with load k taken, which replaces what it draws standing; none where a limit is broken.

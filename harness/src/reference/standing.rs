@@ -13,33 +13,10 @@ pub fn power(standing: &Standing, slot: usize) -> (i64, i64) {
     standing.as_ref().map_or((0, 0), |powers| powers[slot])
 }
 
-/// Where a case does not say otherwise, its book has one slot with a limit of 10, two loads and d = 5: L = 1, so that the grid
-/// values are the powers.
 #[cfg(test)]
 mod tests {
+    use crate::reference::test_books::*;
     use crate::reference::{Case, EXAMPLE};
-
-    /// The words and the bytes that two loads need: cells are 11 × 23.
-    const WORDS: usize = 4 * 11 * 23;
-    const SHEET: usize = 46;
-
-    fn two(loads: [&str; 2]) -> Case {
-        Case::new(format!("01010205FFFFFFFF000A\n{}\n{}\n", loads[0], loads[1]).into())
-    }
-
-    /// The number and the line of the planner's answer, and the words that it leaves free.
-    fn planned(case: &Case, words: usize, buffer: usize) -> (u64, u64, usize) {
-        let outcome = case.plan(words, buffer);
-        (
-            outcome.answer.first.number,
-            outcome.answer.first.line,
-            outcome.free_words,
-        )
-    }
-
-    fn quick_number(case: &Case, buffer: usize) -> u64 {
-        case.quick(buffer).answer.first.number
-    }
 
     /// Standing (6, 0) and (5, 0), running (6, 0) and (7, 1): every choice has 11 or more. Both pairs of load 1 are one list, so
     /// trials are 2 + 2.
@@ -119,21 +96,15 @@ mod tests {
 
     #[test]
     fn refusals_of_lines() {
-        let refused_at = |header: &str, load: &str| {
-            let case = Case::new(format!("{header}\n{load}\n").into());
-            case.book
-                .map_or_else(|refusal| (refusal.number, refusal.line), |_| (0, 0))
-        };
-        let of_load = |load: &str| refused_at("01010101FFFFFFFF0010", load);
-        assert_eq!(of_load("06010004FFFC000100000000"), (0, 0));
-        assert_eq!(of_load("06010004FFFB000100000000"), (7, 2));
-        assert_eq!(of_load("060100000000000100040005"), (7, 2));
-        assert_eq!(of_load("0201000100000000"), (0, 0));
-        assert_eq!(of_load("0601000100000000"), (5, 2));
-        assert_eq!(of_load("02010004FFFB000100000000"), (5, 2));
-        assert_eq!(of_load("060000000000"), (4, 2));
+        assert_eq!(load_refused_at("06010004FFFC000100000000"), (0, 0));
+        assert_eq!(load_refused_at("06010004FFFB000100000000"), (7, 2));
+        assert_eq!(load_refused_at("060100000000000100040005"), (7, 2));
+        assert_eq!(load_refused_at("0201000100000000"), (0, 0));
+        assert_eq!(load_refused_at("0601000100000000"), (5, 2));
+        assert_eq!(load_refused_at("02010004FFFB000100000000"), (5, 2));
+        assert_eq!(load_refused_at("060000000000"), (4, 2));
         for kind in ["01", "03", "05", "08", "16", "60"] {
-            assert_eq!(of_load(&format!("{kind}0100000000000100000000")), (3, 2));
+            assert_eq!(load_refused_at(&format!("{kind}0100000000000100000000")), (3, 2));
         }
         assert_eq!(refused_at("06010101FFFFFFFF0010", "0201000100000000"), (3, 1));
     }

@@ -5,9 +5,9 @@ use Rattle.model.specs.Bounds.{mostLoads}
 use Rattle.model.specs.Values.{problemOf}
 use borrow.Author.Needs.{needs}
 use native.Mathlib.Omega.{arith}
-use Rattle.model.proofs.HeldLaws.{held-count, held-few}
+use Rattle.model.proofs.HeldLaws.{noLoad, held-count, held-few}
 use Rattle.chosen.proofs.picks_on.Statement.{statement}
-use Rattle.chosen.proofs.SheetChoiceLaws.{ReadUpto, read-start, read-more, read-below, read-past, read-found}
+use Rattle.chosen.proofs.SheetChoiceLaws.{ReadUpto, read-start, numbers-few, read-more, read-below, read-past, read-found}
 use Rattle.chosen.proofs.picks_on.Tie as tie
 
 abbrev Inv-loop : tie.InvT-loop
@@ -42,14 +42,20 @@ returns : tie.Need-returns Inv-loop μ-loop
 returns c =
     let a = c .before .before .before .before .before .before .before in
     let l = c .before .before .before .before .before .loop in
-    read-below (a .args .t2) (a .pre .0) (a .args .sheet .now) (l .picks) (l .k) _ _ (omega arith) (c .before .before .number .ensures) (c .if1 .taken)
+    read-below (a .args .t2) (a .pre .0) (a .args .sheet .now) (l .picks) (l .k) noLoad (c .before .before .number .result) (omega arith) (c .before .before .number .ensures) (omega arith)
+
+add-if2 : tie.Need-add-if2 Inv-loop μ-loop
+add-if2 c =
+    let a = c .before .before .before .before .before .before .before .before in
+    let l = c .before .before .before .before .before .before .loop in
+    omega (arith, numbers-few (a .args .t2) (a .pre .0) (a .args .sheet .now) (l .picks) (l .k) noLoad (omega arith))
 
 returns-2 : tie.Need-returns-2 Inv-loop μ-loop
 returns-2 c =
-    let a = c .before .before .before .before .before .before .before .before .before .before in
-    let l = c .before .before .before .before .before .before .before .before .loop in
-    read-past (a .args .t2) (a .pre .0) (a .args .sheet .now) (l .picks) (l .k) _ _ (omega arith) (c .before .before .before .before .before .number .ensures)
-    (c .before .before .before .if1 .left) (c .if2 .taken)
+    let a = c .before .before .before .before .before .before .before .before .before in
+    let l = c .before .before .before .before .before .before .before .loop in
+    read-past (a .args .t2) (a .pre .0) (a .args .sheet .now) (l .picks) (l .k) noLoad (c .before .before .before .before .number .result) (omega arith)
+    (c .before .before .before .before .number .ensures) (omega arith)
 
 mul-picks : tie.Need-mul-picks Inv-loop μ-loop
 mul-picks c = search needs
@@ -65,12 +71,12 @@ loop-less c = search needs
 
 loop-again : tie.Need-loop-again Inv-loop μ-loop
 loop-again c =
-    let a = c .before .before .before .before .before .before .before .before .before .before in
-    let l = c .before .before .before .before .before .before .before .before .loop in (
+    let a = c .before .before .before .before .before .before .before .before .before in
+    let l = c .before .before .before .before .before .before .before .loop in (
       search needs,
       search needs,
-      read-more (a .args .t2) (a .pre .0) (a .args .sheet .now) (l .picks) (l .k) _ _ (omega arith) (l .inv .2) (c .before .before .before .before .before .number .ensures)
-          (c .before .before .before .if1 .left) (c .if2 .left),
+      read-more (a .args .t2) (a .pre .0) (a .args .sheet .now) (l .picks) (l .k) noLoad (c .before .before .before .before .number .result) (omega arith) (l .inv .2)
+          (c .before .before .before .before .number .ensures) (omega arith) (omega arith),
     )
 
 returns-3 : tie.Need-returns-3 Inv-loop μ-loop
@@ -92,6 +98,7 @@ picks-on-spec =
     add-number
     number-requires
     returns
+    add-if2
     returns-2
     mul-picks
     array-write-picks

@@ -4,7 +4,7 @@ use mathlib.Core.Bool.{cond}
 use borrow.Author.Tests.{eq-eqb, ne-eqb}
 use Rattle.model.specs.Frames.{field}
 use Rattle.model.specs.Book.{mustRun}
-use Rattle.loadline.specs.LoadLine.{leastNumber}
+use Rattle.model.specs.MustRun.{leastNumber}
 use borrow.Author.Needs.{needs}
 use Rattle.loadline.proofs.least_number.Statement.{statement}
 use Rattle.loadline.proofs.least_number.Tie as tie

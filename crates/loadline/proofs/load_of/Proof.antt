@@ -8,9 +8,10 @@ use Rattle.model.specs.Book.{Settings, settings}
 use Rattle.model.specs.Choice.{leastOf}
 use Rattle.model.specs.Values.{raised, powerOf, loadValue}
 use Rattle.model.proofs.UptoLaws.{fill-more, fill-all}
+use Rattle.model.proofs.ValidLaws.{length-settings, least-settings}
 use Rattle.loadline.specs.declared.PowerValue.{PowerValue}
 use Rattle.loadline.specs.LoadLine.{LoadLine}
-use Rattle.loadline.proofs.LineLaws.{line-holds, length-settings, least-settings}
+use Rattle.loadline.proofs.LineLaws.{line-holds}
 use borrow.Author.Needs.{needs}
 use native.Mathlib.Omega.{arith}
 use Rattle.loadline.proofs.load_of.Statement.{statement}

@@ -1,21 +1,15 @@
 -- `sums::worth_of` meets its contract. The invariant: the worth is that of the loads passed. Assumes nothing.
 use mathlib.Core.Path.{_≡_, refl, _∙_}
-use mathlib.Core.List.{[]}
 use Prim.Native.Nat.{_-_, _≤_}
-use Rattle.model.specs.declared.Load.{Load}
 use Rattle.model.specs.Choice.{worthOf}
 use Rattle.model.specs.Values.{problemOf}
 use Rattle.model.specs.Bounds.{mostLoads}
-use Rattle.model.proofs.HeldLaws.{held-few}
+use Rattle.model.proofs.HeldLaws.{noLoad, held-few}
 use borrow.Author.Needs.{needs}
 use native.Mathlib.Omega.{arith}
 use Rattle.sums.proofs.PickLaws.{picksUpto, held-pick, held-worth, held-worth-small, held-all}
 use Rattle.sums.proofs.worth_of.Statement.{statement}
 use Rattle.sums.proofs.worth_of.Tie as tie
-
--- what the logic reads past the end of the loads
-abbrev noLoad : Load
-noLoad = record { least = 0; settings = 0; worths = []; actives = []; reactives = [] }
 
 abbrev Inv-loop : tie.InvT-loop
 Inv-loop book picks worth₀ k₀ worth k = (k ≤ book .count) × (book .count ≤ mostLoads) × (worth ≡ worthOf (picksUpto (problemOf book) picks k))
