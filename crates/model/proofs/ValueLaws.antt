@@ -88,7 +88,7 @@ module _ (t : ℕ) (vs : Settings) (four : t ≤ 4) (labels : Labelled vs) (powe
       λ i. record { number = number-is i; worth = worth-is i; powers = powers-are i }
 
   -- the settings of a load, had back from its value
-  pub value-kept : settingsIn t (loadValue vs) ≡ vs
+  value-kept : settingsIn t (loadValue vs) ≡ vs
   unfolding loadValue
   value-kept =
       from-is (settingIn t (loadValue vs)) (leastOf vs) vs noSetting
