@@ -200,10 +200,10 @@ pub fn load_of(line: &[u8], slots: usize, count: usize) -> Load
     let least = least_number(line);
     let settings = count + 1 - least;
     Load {
-        least,
         settings,
         worths,
         actives,
         reactives,
+        least,
     }
 }

@@ -21,7 +21,7 @@ use Rattle.model.proofs.ValueLaws.{held-kept, power-at}
 
 -- what the logic reads past the end of the loads
 abbrev pub noLoad : Load
-noLoad = record { least = 0; settings = 0; worths = []; actives = []; reactives = [] }
+noLoad = record { settings = 0; worths = []; actives = []; reactives = []; least = 0 }
 
 module _ (v : Book) (h : Held v) where
   pub held-valid : ValidBook (problemOf v)

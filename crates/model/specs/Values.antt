@@ -37,11 +37,11 @@ powerOf vs k = powerIn (k % mostSlots) (settingOf vs (k / mostSlots))
 unfoldable pub loadValue : Settings → Load
 loadValue vs =
     record {
-      least = leastOf vs;
       settings = length vs;
       worths = map (λ c. settingOf vs c .worth) (upto mostSettings);
       actives = map (λ k. powerOf vs k .p) (upto mostPowers);
       reactives = map (λ k. raised (powerOf vs k .q)) (upto mostPowers);
+      least = leastOf vs;
     }
 
 -- the value that holds a book; past the last load stand loads with no settings

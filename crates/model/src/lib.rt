@@ -69,11 +69,11 @@ pub struct OrderAnswer {
 // worths[c] and, in slot s, the active power actives[4 c + s] and the reactive power reactives[4 c + s] - 32,768. Where `least` is 1,
 // the places of setting 0 hold no worth and no power.
 pub struct Load {
-    pub least: usize,
     pub settings: usize,
     pub worths: [u64; Load::SETTINGS],
     pub actives: [u64; Load::POWERS],
     pub reactives: [u64; Load::POWERS],
+    pub least: usize,
 }
 
 // A book that was read: the header's numbers and limits, and the loads in book order.
@@ -102,11 +102,11 @@ impl Load {
         ensures { λ r. ⌜ r ≡ loadValue [] ⌝ }
     {
         Load {
-            least: 0,
             settings: 0,
             worths: [0; Load::SETTINGS],
             actives: [0; Load::POWERS],
             reactives: [32768; Load::POWERS],
+            least: 0,
         }
     }
 }

@@ -105,7 +105,7 @@ returns c =
     let many : a .count + 1 - c .least-number .result ≡ length vs = omega (arith, c .least-number .ensures, length-settings (a .slots) (a .line .now)) in
     let actives-are : l .actives ≡ map (active vs) (upto 16) = fill-all (active vs) (l .actives) 16 (l .k) (l .inv .1) (omega arith) (omega arith) (l .inv .3) in
     let reactives-are : l .reactives ≡ map (reactive vs) (upto 16) = fill-all (reactive vs) (l .reactives) 16 (l .k) (l .inv .2) (omega arith) (omega arith) (l .inv .4) in
-    λ i. record { least = least-is i; settings = many i; worths = c .before .before .before .worths-of .ensures i; actives = actives-are i; reactives = reactives-are i }
+    λ i. record { settings = many i; worths = c .before .before .before .worths-of .ensures i; actives = actives-are i; reactives = reactives-are i; least = least-is i }
 
 pub load-of-spec : {M : Type 1} → statement M
 load-of-spec =
