@@ -10,7 +10,6 @@ use native.Mathlib.Nat.{zero-add, add-zero, le-of-suc-le-suc}
 use native.Mathlib.Omega.{arith}
 use lib.Dec.{eqb}
 use lib.ListN.{length, getD, set, length-set}
-use lib.Seq.{getD-set-same, getD-set-other}
 use Rattle.model.specs.declared.Book.{Book}
 use Rattle.model.specs.declared.Finding.{Finding}
 use Rattle.model.specs.declared.Finding.the-variants.{Passed, Refused}
@@ -26,7 +25,7 @@ use Rattle.model.specs.Sheet.{sheetBytes, sheetLength}
 use Rattle.model.specs.SheetReader.{foreignRules, consBoth, choiceFrom, trialsOn, ifBelongs, sheetChoice}
 use Rattle.model.specs.Valid.{Labelled}
 use Rattle.model.specs.Values.{Held, Offers, Picked, choiceOf, problemOf}
-use Rattle.model.proofs.ListLaws.{same-eq, same-refl}
+use Rattle.model.proofs.ListLaws.{same-eq, same-refl, at-set}
 use Rattle.model.proofs.IntegerLaws.{split}
 use Rattle.model.proofs.RefusalLaws.{first-here, first-last}
 use Rattle.model.proofs.NumberLaws.{none-found}
@@ -97,17 +96,12 @@ module _ (book : Book) (h : Held book) (sheet picks : List ℕ) where
             (λ q. subst (λ i. Offers (getD (book-of .loads) i []) c) (sym q) (omega (arith, least-at k d l), omega (arith, least-at k d l, settings-at k d l)));
       }
     where
-      here : k < length picks
-      here = omega (arith, r .room, held-few book h)
-
       cases : (P : ℕ → Type 0) (j : ℕ) → j < k + 1 → (j < k → P (getD picks j 0)) → (j ≡ k → P c) → P (getD (set picks k c) j 0)
-      cases P j g before last = go (split j k)
+      cases P j g before last = at-set P picks k j c 0 (omega (arith, r .room, held-few book h)) last (λ n. before (below n (split j k)))
         where
-          go : (j < k) ⊎ (k ≤ j) → P (getD (set picks k c) j 0)
-          go (inl i) = subst P (sym (getD-set-other picks k j c 0 (λ q. omega arith))) (before i)
-          go (inr i) =
-              let q : j ≡ k = omega arith in
-              subst P (sym (ap (λ i. getD (set picks k c) i 0) q ∙ getD-set-same picks k c 0 here)) (last q)
+          below : (j ≡ k → ⊥) → (j < k) ⊎ (k ≤ j) → j < k
+          below n (inl i) = i
+          below n (inr i) = absurd (n (omega arith))
 
   -- a number that is not one of its load's
   read-lost : (k c : ℕ) → k < book .count → c ≡ field sheet (18 + 2 * k) 2 → Outside (getD (book-of .loads) k []) c

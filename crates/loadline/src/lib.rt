@@ -86,7 +86,7 @@ fn standing_power(line: &[u8], slots: usize, pairs: usize, s: usize) -> PowerVal
     PowerValue::none()
 }
 
-// The power of setting c in slot s; none past the last option and slot, and none where there is no standing.
+// The power of setting c in slot s; none past the last option and slot, nor for setting 0 where the load must run.
 fn power_of(line: &[u8], slots: usize, pairs: usize, count: usize, c: usize, s: usize) -> PowerValue
     requires { ⌜ LoadLine slots pairs count (now line) ⌝ }
     ensures { λ r. ⌜ r ≡ powerValue (powerIn s (settingOf (settings slots (now (line .entry))) c)) ⌝ }
@@ -113,7 +113,7 @@ fn exceeds_at(line: &[u8], slots: usize, pairs: usize, count: usize, c: usize, s
     power.active < model::distance(power.reactive, 32768)
 }
 
-// |Q| > P in some setting and slot. Where there is no standing, setting 0 has no power, and exceeds nowhere.
+// |Q| > P in some setting and slot; where the load must run, setting 0 has no power and exceeds nowhere.
 fn some_exceeds(line: &[u8], slots: usize, pairs: usize, count: usize) -> bool
     requires { ⌜ LoadLine slots pairs count (now line) ⌝ }
     ensures { λ r. ⌜ r ≡ someExceeds (settings slots (now (line .entry))) ⌝ }

@@ -269,3 +269,13 @@ pub every-set : {A : Type 0} (P : A → Type 0) (xs : List A) (k : ℕ) (x : A) 
 every-set P [] k x h p = tt
 every-set P (y ∷ ys) zero x h p = (p, h .1)
 every-set P (y ∷ ys) (suc k) x h p = (h .0, every-set P ys k x (h .1) p)
+
+-- after a store: the stored value at its place, and elsewhere what was there
+pub at-set : {A : Type 0} (P : A → Type 0) (xs : List A) (i k : ℕ) (x d : A) → k < length xs → (k ≡ i → P x) → ((k ≡ i → ⊥) → P (getD xs k d))
+    → P (getD (set xs i x) k d)
+at-set P [] i k x d h stored kept = absurd (omega arith)
+at-set P (y ∷ ys) zero zero x d h stored kept = stored refl
+at-set P (y ∷ ys) zero (suc k) x d h stored kept = kept (λ e. omega arith)
+at-set P (y ∷ ys) (suc i) zero x d h stored kept = kept (λ e. omega arith)
+at-set P (y ∷ ys) (suc i) (suc k) x d h stored kept =
+    at-set P ys i k x d (le-of-suc-le-suc h) (λ e. stored (ap suc e)) (λ n. kept (λ e. n (omega (arith, e))))

@@ -16,7 +16,7 @@ use Rattle.model.specs.Book.{Setting, Settings}
 use Rattle.model.specs.Choice.{Choice, IsChoice, settingNumbered, noSetting, settingOr, settingOf, firstSetting, leastOf}
 use Rattle.model.specs.Valid.{Numbered, Labelled, SettingSmall}
 use Rattle.model.specs.Values.{Offers}
-use Rattle.model.proofs.ListLaws.{every-mem}
+use Rattle.model.proofs.ListLaws.{every-mem, every-of-mem, every-at}
 use Rattle.model.proofs.UptoLaws.{suc-across}
 use Rattle.model.proofs.ChoiceLaws.{choice-every}
 
@@ -68,9 +68,7 @@ none-found i (v ∷ vs) c h l =
     rest (inr a) = inr (omega arith)
 
 member-at : (vs : Settings) (k : ℕ) → k < length vs → Mem (getD vs k noSetting) vs
-member-at [] k h = absurd (omega arith)
-member-at (v ∷ vs) zero h = inl refl
-member-at (v ∷ vs) (suc k) h = inr (member-at vs k (le-of-suc-le-suc h))
+member-at vs k h = every-at (λ v. Mem v vs) vs noSetting (every-of-mem (λ v. Mem v vs) vs (λ v m. m)) k h
 
 -- setting i + k is the one at place k
 pub numbered-of : (i : ℕ) (vs : Settings) → Numbered i vs → (k : ℕ) → k < length vs → settingOf vs (i + k) ≡ getD vs k noSetting

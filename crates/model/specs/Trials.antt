@@ -49,7 +49,7 @@ samePair x y = eqb (x .p) (y .p) && sameℤ (x .q) (y .q)
 abbrev pub inRange : List Slot → Choice → Bool
 inRange slots c = all (λ s. leb (gridIn s c .p) (gridTop s)) slots
 
--- "the number of different lists of grid pairs (a, b), one pair a slot, that choices of" these loads have
+-- "the number of different lists of grid pairs (a, b), one pair a slot, that choices of" these loads have; M-105: choices that run those that must run
 unfoldable pub reachedCount : List Slot → List Settings → ℕ
 reachedCount slots loads = length (distinct (sameLists samePair) (map (gridsOf slots) (keep (inRange slots) (choices loads))))
 

@@ -24,7 +24,7 @@ use Rattle.model.proofs.RoundingLaws.{floor-small}
 use Rattle.model.specs.Index as index
 use Rattle.model.proofs.RowLaws.{digit-plus}
 use Rattle.model.proofs.NumberLaws.{setting-small, offered-number}
-use Rattle.model.proofs.HeldLaws.{load-active, load-reactive}
+use Rattle.model.proofs.HeldLaws.{load-active, load-reactive, value-least, value-count}
 use Rattle.slots.specs.declared.Slots.{Slots}
 use Rattle.slots.specs.Slots.{noSlot, SlotAt}
 use Rattle.slots.proofs.ArrayLaws.{set-down}
@@ -148,12 +148,10 @@ actives-in active v t (s ∷ slots) h =
 
 module _ (x : Load) (h : LoadHeld x) where
   pub load-count : x .settings ≡ length (h .settings)
-  unfolding loadValue
-  load-count = ap (λ (y : Load). y .settings) (h .is)
+  load-count = ap (λ (y : Load). y .settings) (h .is) ∙ value-count (h .settings)
 
   pub load-least : x .least ≡ leastOf (h .settings)
-  unfolding loadValue
-  load-least = ap (λ (y : Load). y .least) (h .is)
+  load-least = ap (λ (y : Load). y .least) (h .is) ∙ value-least (h .settings)
 
   pub load-few : x .least + x .settings ≤ 4
   load-few = omega (arith, load-least, load-count, h .labels .few)
