@@ -1,15 +1,13 @@
 -- What is printed, from the planner's answer and the buffer that it was lent.
 -- Assumes nothing.
-use mathlib.Core.Path.{_≡_, sym, ap, ap₂, _∙_}
+use mathlib.Core.Path.{_≡_, refl, sym, ap, ap₂, _∙_}
 use mathlib.Core.Bool.{cond}
 use mathlib.Core.List.{List, _++_}
-use Prim.Native.Nat.{ℕ, zero, suc, _-_, _≤_}
-use native.Mathlib.Nat.{sub-zero, suc-sub-suc}
+use Prim.Native.Nat.{ℕ, _≤_}
 use native.Mathlib.Omega.{arith}
-use lib.ListN.{length, drop, set, replicate, length-append}
+use lib.ListN.{length, set, length-append}
 use borrow.Author.Tests.{ne-eqb}
 use Rattle.model.specs.declared.Answer.{Answer}
-use Rattle.model.specs.Bounds.{mostSheet}
 use Rattle.model.specs.Frames.{digits}
 use Rattle.model.specs.Refusals.{Result, refused, done, numberOf}
 use Rattle.model.specs.Answers.{Output, Writes}
@@ -19,8 +17,7 @@ use Rattle.model.proofs.FrameLaws.{length-digits}
 use Rattle.model.proofs.RefusalLaws.{number-some}
 use Rattle.hex.specs.Written.{written}
 use Rattle.hex.proofs.WrittenLaws.{length-written, write-on, write-byte, written-start}
-use Rattle.print.specs.declared.Printed.{Printed}
-use Rattle.print.specs.Printing.{printedValue, printedAs}
+use Rattle.print.specs.Printing.{printedIn, printedLength}
 
 -- three fields and an LF
 pub refusal-written : (l l₁ l₂ l₃ : List ℕ) (number line : ℕ) → l₁ ≡ written l 0 (digits 2 255) → l₂ ≡ written l₁ 2 (digits 2 number)
@@ -48,34 +45,14 @@ length-refusal number line =
     let n₂ : length ((digits 2 255 ++ digits 2 number) ++ digits 4 line) ≡ 8 = omega (arith, n₁, length-append (digits 2 255 ++ digits 2 number) (digits 4 line), length-digits 4 line) in
     omega (arith, n₂, length-append ((digits 2 255 ++ digits 2 number) ++ digits 4 line) lf)
 
-abbrev zeros : ℕ → List ℕ
-zeros m = replicate m 0
-
-zeros-left : (n m : ℕ) → drop n (zeros m) ≡ zeros (m - n)
-zeros-left zero m = ap zeros (sym (sub-zero m))
-zeros-left (suc n) zero = let e : 0 ≡ 0 - suc n = omega arith in ap zeros e
-zeros-left (suc n) (suc m) = zeros-left n m ∙ ap zeros (sym (suc-sub-suc m n))
-
--- of a call that was lent zeros, what is printed is its sheet, or the line of its refusal
-pub printed-is : (x : Result Output) (before buffer : List ℕ) (a : Answer) → before ≡ zeros mostSheet → Writes x before buffer a
-    → printedAs a buffer ≡ printedValue (printed x)
-unfolding printedAs printedValue
-printed-is (refused r line) before buffer a e w =
-    ap₂ printedAs (w .answers) (w .leaves ∙ e)
-    ∙ ap (λ t. cond t (record { bytes = zeros mostSheet; length = 0 }) (record { bytes = written (zeros mostSheet) 0 (refusalLine (numberOf r) line); length = 9 }))
-    (ne-eqb (numberOf r) 0 (number-some r))
-    ∙ (λ i. record { bytes = bytes i; length = sym (length-refusal (numberOf r) line) i })
-  where
-    bytes : written (zeros mostSheet) 0 (refusalLine (numberOf r) line) ≡ refusalLine (numberOf r) line ++ zeros (mostSheet - length (refusalLine (numberOf r) line))
-    bytes =
-        written-start (zeros mostSheet) (refusalLine (numberOf r) line)
-        ∙ ap (λ l. refusalLine (numberOf r) line ++ l) (zeros-left (length (refusalLine (numberOf r) line)) mostSheet)
-printed-is (done s) before buffer a e w =
-    ap₂ printedAs (w .answers) (w .leaves ∙ ap (λ l. s .bytes ++ drop (length (s .bytes)) l) e)
-    ∙ (λ i. record { bytes = s .bytes ++ zeros-left (length (s .bytes)) mostSheet i; length = length (s .bytes) })
-
--- the bytes that are printed lie within the value
-pub printed-fits : (v : Printed) (out : List ℕ) → v ≡ printedValue out → v .length ≤ length (v .bytes)
-unfolding printedValue
-printed-fits v out e =
-    omega (arith, ap (λ (x : Printed). x .length) e, ap (λ (x : Printed). length (x .bytes)) e, length-append out (zeros (mostSheet - length out)))
+-- what is printed of a call is its sheet, or the line of its refusal
+pub printed-is : (x : Result Output) (before buffer : List ℕ) (a : Answer) → Writes x before buffer a
+    → (printedIn a buffer ≡ written before 0 (printed x)) × (printedLength a ≡ length (printed x))
+unfolding printedIn printedLength
+printed-is (refused r line) before buffer a w =
+    let n = ne-eqb (numberOf r) 0 (number-some r) in (
+      ap₂ printedIn (w .answers) (w .leaves) ∙ ap (λ t. cond t before (written before 0 (refusalLine (numberOf r) line))) n,
+      ap printedLength (w .answers) ∙ ap (λ t. cond t 0 9) n ∙ sym (length-refusal (numberOf r) line),
+    )
+printed-is (done s) before buffer a w =
+    (ap₂ printedIn (w .answers) (w .leaves) ∙ sym (written-start before (s .bytes)), ap printedLength (w .answers))

@@ -1,17 +1,22 @@
 // What the program prints for its input.
 use model::Book;
-use print::Printed;
 ghost use mathlib.Core.Path.{_≡_};
 ghost use Prim.Native.Nat.{_≤_};
 ghost use lib.ListN.{length, replicate};
 ghost use Rattle.model.specs.Bounds.{mostSheet, programBytes, programWords};
 ghost use Rattle.model.specs.Program.{programOutput};
-ghost use Rattle.print.specs.Printing.{printedValue};
+ghost use Rattle.program.specs.PrintedValue.{printedValue};
 
 // How many bytes of its input the program takes as the book, and how many words it lends.
 const BYTES: usize = 4096;
 
 const WORDS: usize = 6144;
+
+// The first `length` of these bytes are printed. No sheet is longer than the array.
+pub struct Printed {
+    pub bytes: [u8; Book::SHEET],
+    pub length: usize,
+}
 
 // How many bytes of an input of n bytes are the book.
 fn book_length(n: usize) -> usize
@@ -45,5 +50,6 @@ pub fn output(input: &[u8]) -> Printed
     let mut bytes = room();
     let end = book_length(input.len());
     let answer = planner::plan(&input[..end], &mut work, &mut bytes);
-    print::print_answer(answer, bytes)
+    let length = print::print_answer(answer, &mut bytes);
+    Printed { bytes, length }
 }

@@ -3,7 +3,7 @@ use mathlib.Core.Path.{sym}
 use lib.Seq.{length-take-le}
 use native.Mathlib.Omega.{arith}
 use borrow.Author.Needs.{needs}
-use Rattle.print.proofs.PrintLaws.{printed-fits}
+use Rattle.program.proofs.ProgramLaws.{printed-fits}
 use Rattle.loadplan.proofs.main.Statement.{statement}
 use Rattle.loadplan.proofs.main.Tie as tie
 

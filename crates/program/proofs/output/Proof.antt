@@ -1,7 +1,7 @@
 -- `program::output` meets its contract: what is printed of the planner's answer. Assumes nothing.
-use Rattle.print.specs.Printing.{printedValue}
 use Rattle.print.proofs.PrintLaws.{printed-is}
-use Rattle.program.proofs.ProgramLaws.{program-is, book-count}
+use Rattle.program.specs.PrintedValue.{printedValue}
+use Rattle.program.proofs.ProgramLaws.{program-is, book-count, value-is}
 use mathlib.Core.Path.{sym, ap, _∙_}
 use lib.ListN.{length}
 use borrow.Author.Needs.{needs}
@@ -29,17 +29,21 @@ slice-aggregate-plan-3 c = sym (ap length (c .before .before .before .before .ro
 plan-requires : tie.Need-plan-requires
 plan-requires c κs = search needs
 
+slice-aggregate-print-answer : tie.Need-slice-aggregate-print-answer
+slice-aggregate-print-answer c = search needs
+
 print-answer-requires : tie.Need-print-answer-requires
 print-answer-requires c κs = search needs
 
 returns : tie.Need-returns
 returns c =
-    let input = c .before .before .before .before .before .before .before .before .before .before .before .args .input .now in
-    let words = c .before .before .before .before .before .before .before .before .before .words in
-    let room = c .before .before .before .before .before .before .before .before .room in
-    let end = c .before .before .before .before .before .before .before .book-length in
-    c .print-answer .ensures
-    ∙ printed-is _ (room .result) _ _ (room .ensures) (c .before .before .before .plan .ensures .0)
+    let input = c .before .before .before .before .before .before .before .before .before .before .before .before .before .args .input .now in
+    let words = c .before .before .before .before .before .before .before .before .before .before .before .words in
+    let room = c .before .before .before .before .before .before .before .before .before .before .room in
+    let end = c .before .before .before .before .before .before .before .before .before .book-length in
+    let print = c .before .print-answer .ensures in
+    let p = printed-is _ (room .result) _ _ (c .before .before .before .before .before .plan .ensures .0) in
+    value-is (room .result) _ _ _ (room .ensures) (print .0 ∙ p .0) (print .1 ∙ p .1)
     ∙ ap printedValue (program-is input (words .result) (room .result) (end .result) (end .ensures .0) (end .ensures .1) (words .ensures) (room .ensures))
 
 pub output-spec : {M : Type 1} → statement M
@@ -53,5 +57,6 @@ output-spec =
     slice-aggregate-plan-2
     slice-aggregate-plan-3
     plan-requires
+    slice-aggregate-print-answer
     print-answer-requires
     returns)
