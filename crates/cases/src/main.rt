@@ -1,5 +1,5 @@
-// Runs the planner, the quick planner, the sheet reader, the charge, the order of starting and the views on fixed books and sheets, and prints
-// each answer. Every refusal is reached: 1 to 8 with its line, and 9 to 17. The stored output is what documents 01 and 02 say.
+// Runs the planner, the quick planner, the sheet reader, the charge, the order of starting, the views and the day on fixed books and sheets, and prints
+// each answer. Every refusal is reached: 1 to 8 with its line, and 9 to 19. The stored output is what documents 01 and 02 say.
 use libc::STDOUT_FILENO;
 use model::Answer;
 
@@ -341,6 +341,27 @@ fn views() {
     view_case(b"foreign, no sheet", b"", &mut short[..0]);
 }
 
+// A day's books, and the buffer as the call left it.
+fn day_case(name: &[u8], books: &[u8], out: &mut [u8]) {
+    let mut work = [77u64; 1056];
+    let a = day::day(books, &mut work, out);
+    print_answer(name, b": day, number ", a, out);
+}
+
+// Document 01's example, a misshapen book and an empty one: with a byte too few, and with one to spare. Then 32 empty books, which do not fit, and 33
+// with no room at all.
+fn days() {
+    let mut short = [46u8; 65];
+    let mut out = [46u8; 67];
+    let books =
+        b"0101030400000064000A\n0201000500050005\n020100050004FFFC\n0201000400040000\n\n0101\n\n";
+    day_case(b"too long", books, &mut short);
+    day_case(b"three books", books, &mut out);
+    let lines = [10u8; 32];
+    day_case(b"32 books, too long", &lines[..31], &mut short);
+    day_case(b"33 books, too long", &lines, &mut short[..0]);
+}
+
 fn main() {
     unreadable_books();
     misshapen_books();
@@ -357,4 +378,5 @@ fn main() {
     charges();
     orders();
     views();
+    days();
 }

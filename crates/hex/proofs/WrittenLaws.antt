@@ -63,14 +63,19 @@ pub written-start : (l xs : List ℕ) → written l 0 xs ≡ xs ++ drop (length 
 unfolding written
 written-start l xs = rw zero-add
 
+-- a buffer with a part put back, from place p to the end, that was written from its start on
+pub part-written : (l l₂ xs : List ℕ) (p : ℕ) → l₂ ≡ written (take (length l - p) (drop p l)) 0 xs → p ≤ length l
+    → take p l ++ (l₂ ++ drop (length l - p) (drop p l)) ≡ written l p xs
+part-written l l₂ xs p f h =
+    let n : length l - p ≡ length (drop p l) = sym (length-drop p l) in
+    rw (f, n, take-length, drop-length, append-nil) (written-part l p 0 xs h ∙ ap (λ i. written l i xs) (add-zero p))
+
 -- two writes in a row: `first` from the start, then `rest` into the part after it
 pub then-written : (l l₁ l₂ first rest : List ℕ) (p : ℕ) → l₁ ≡ written l 0 first → l₂ ≡ written (take (length l₁ - p) (drop p l₁)) 0 rest
     → p ≡ length first → p + length rest ≤ length l → take p l₁ ++ (l₂ ++ drop (length l₁ - p) (drop p l₁)) ≡ written l 0 (first ++ rest)
 then-written l l₁ l₂ first rest p e f q h =
     let k : length l₁ ≡ length l = ap length e ∙ length-written l 0 first (omega arith) in
-    let n : length l₁ - p ≡ length (drop p l₁) = sym (length-drop p l₁) in
-    rw (f, n, take-length, drop-length, append-nil) (written-part l₁ p 0 rest (omega arith) ∙ ap (λ i. written l₁ i rest) (add-zero p))
-    ∙ write-on l l₁ 0 p first rest e (omega arith) (omega arith)
+    part-written l₁ l₂ rest p f (omega arith) ∙ write-on l l₁ 0 p first rest e (omega arith) (omega arith)
 
 -- ---- the digits of x, written from the last on: with `left` of n digits still to write, `rest` is x without the others
 

@@ -1,5 +1,5 @@
 // The public calls for programs in C and other languages: the planner, the quick planner, the sheet reader, the charge, the
-// order of starting, and what the mill and the supply company see.
+// order of starting, what the mill and the supply company see, and a day's books at once.
 use model::Answer;
 use model::ChargeAnswer;
 use model::OrderAnswer;
@@ -16,6 +16,7 @@ ghost use Rattle.model.specs.Demand.{Answered, Demand3};
 ghost use Rattle.model.specs.Charge.{chargeResult, chargeAnswerOf};
 ghost use Rattle.model.specs.Order.{orderResult, WritesOrder, OrderKept};
 ghost use Rattle.model.specs.Views.{millResult, supplyResult, NothingElse};
+ghost use Rattle.model.specs.Day.{dayResult, dayFreeWords};
 ghost use Rattle.model.specs.Bounds.{mostCharge};
 
 // The planner: the sheet of the plan, or the first refusal of 1 to 12 and 17.
@@ -84,4 +85,13 @@ pub extern "C" fn jadeshuttle_supply_view(book: &[u8], sheet: &[u8], view: &mut 
     ensures alone { λ r. ⌜ NothingElse (now (book .entry)) (now (sheet .entry)) (now (view .entry)) (now (view .exit)) r ⌝ }
 {
     views::supply_view(book, sheet, view)
+}
+
+// A day's books at once: what the program prints for each of them, one after the other, or refusals 18 and 19.
+#[no_mangle]
+pub extern "C" fn jadeshuttle_day(books: &[u8], work: &mut [u64], out: &mut [u8]) -> Answer
+    ensures result { λ r. ⌜ Writes (dayResult (now (books .entry)) (length (now (work .entry))) (length (now (out .entry)))) (now (out .entry)) (now (out .exit)) r ⌝ }
+    ensures words { λ _. ⌜ WordsKept (dayFreeWords (now (books .entry)) (length (now (work .entry)))) (now (work .entry)) (now (work .exit)) ⌝ }
+{
+    day::day(books, work, out)
 }

@@ -1,6 +1,6 @@
 -- The proved table: document 01's starred cases ("Trials at the bench"), the ends of M-102's range, two overloads near M-106's bound, charges (M-100),
--- orders of starting (M-101), views (M-103), standing loads that draw (M-104), loads that must run (M-105), and edges where a near mistake shows, as one
--- table of facts about the definitions, with one statement covering it. Star n is the n-th star of document 01.
+-- orders of starting (M-101), views (M-103), standing loads that draw (M-104), loads that must run (M-105), a day's books (M-107), and edges where a near
+-- mistake shows, as one table of facts about the definitions, with one statement covering it. Star n is the n-th star of document 01.
 -- Assumes nothing.
 use mathlib.Core.Path.{_≡_, refl, ap₂, _∙_}
 use mathlib.Core.Bool.{Bool, true, false, _&&_}
@@ -25,7 +25,7 @@ use Rattle.model.specs.Choice.{Choice, settingOf, square}
 use Rattle.model.specs.Grid.{stepFor, slotsOf, floorDiv, bestAdmitted, plan}
 use Rattle.model.specs.Trials.{cells, sameℤ, reachedCount, trialsUpto, trials}
 use Rattle.model.specs.Sheet.{lf, numbersOf, firstLine, sumsAndLimits, slotLine, slotLines, sheetBytes}
-use Rattle.model.specs.Calls.{sizeRules, fittingBook, planSheet, plannerResult}
+use Rattle.model.specs.Calls.{sizeRules, fittingBook, planSheet, plannerResult, freeWords}
 use Rattle.model.specs.Quick.{sizeOf, takeIfFits, quickChoice, quickRules, quickSheet, quickResult}
 use Rattle.model.specs.Program.{refusalLine, printed, programOutput}
 use Rattle.model.specs.Demand.{apparentSquaredIn, closerBound}
@@ -33,6 +33,7 @@ use Rattle.model.specs.Rounding.{floorBySum}
 use Rattle.model.specs.SheetReader.{sheetChoice, sheetData, readerResult, sheetAnswerOf}
 use Rattle.model.specs.Charge.{rounded, chargeOf, choiceCharge, sheetCharge, chargeResult, chargeAnswerOf}
 use Rattle.model.specs.Order.{Running, starting, runningMask, andNot, startCount, wrongNames, someBlocked, left, ready, startNext, startedAfter, startOrder, OrderData, loadsOrder, sheetsOrder, orderResult}
+use Rattle.model.specs.Day.{booksFrom, dayOutput, dayRules, dayOf, dayResult, dayFreeWords}
 use Rattle.model.specs.Views.{accepted, shown, runningLoads, numberAndLevel, millLine, millResult, supplyView, supplyResult}
 use Rattle.model.proofs.ListLaws.{all-join}
 
@@ -72,6 +73,11 @@ pub data Row : Type 0 where
   -- the mill's view of a book and a sheet, the supply company's, or the quick planner's sheet for the book, in a buffer of so many bytes: the answer's five
   -- numbers, and what is written, printed as the program prints a sheet
   shows : (List ℕ → List ℕ → ℕ → Result Output) → List ℕ → List ℕ → ℕ → List ℕ → String → Row
+  -- the day of these bytes, with a work area of so many words and a buffer of so many bytes: the answer's five numbers, and what is written, printed as
+  -- the program prints a sheet
+  days : List ℕ → ℕ → ℕ → List ℕ → List ℕ → Row
+  -- of a work area of so many words, the day of these bytes may change the first of them, so many
+  frees : List ℕ → ℕ → ℕ → Row
 
 abbrev printsFor : String → String → Bool
 printsFor book out = sameLists eqb (programOutput (bytesOf book)) (bytesOf out)
@@ -144,6 +150,9 @@ holds (orders old new names room numbers) = sameLists eqb (orderNumbers (loadsOr
 holds (ordersFrom book old new names room numbers) = sameLists eqb (orderNumbers (orderResult book old new names room)) numbers
 holds (shows view book sheet room numbers out) =
     sameLists eqb (answerNumbers (answerOf (view book sheet room))) numbers && sameLists eqb (printed (view book sheet room)) (bytesOf out)
+holds (days input words room numbers out) =
+    sameLists eqb (answerNumbers (answerOf (dayResult input words room))) numbers && sameLists eqb (printed (dayResult input words room)) out
+holds (frees input words free) = eqb (dayFreeWords input words) free
 
 -- two slots, and one load with P = 20 and P = 4; and the sheet on which it runs
 abbrev halvesBook : List ℕ
@@ -376,6 +385,49 @@ mustRunRows =
     ∷ prints "0701010A00000064000A\n0701000500050005\n" "FF030001\n"
     ∷ []
 
+-- M-107: the plan's sheet of `twinBook`; the same book with no trial in its budget; and what an empty book gives
+abbrev twinPlan : List ℕ
+twinPlan = bytesOf "04000000010000000201\n050000000900000001000A\n"
+
+abbrev twinSpent : List ℕ
+twinSpent = bytesOf "0101010100000000000A\n0201000100090001\n"
+
+abbrev emptyBook : List ℕ
+emptyBook = bytesOf "FF010001\n"
+
+abbrev times : ℕ → List ℕ → List ℕ
+times n bytes = concat (replicate n bytes)
+
+-- of a day's books (M-107)
+unfoldable pub dayRows : List Row
+dayRows =
+    -- an empty input is one empty book; two LFs at the start are two, each ended by an empty line
+    days [] 6144 9 (0 ∷ 0 ∷ 9 ∷ 0 ∷ 0 ∷ []) emptyBook
+    ∷ days (lf ++ lf ++ twinBook) 6144 62 (0 ∷ 0 ∷ 62 ∷ 0 ∷ 0 ∷ []) (emptyBook ++ emptyBook ++ twinPlan)
+    -- 32 and 33 books, and 33 books and a buffer of 0 bytes: 18 comes before 19
+    ∷ days (times 31 lf) 0 288 (0 ∷ 0 ∷ 288 ∷ 0 ∷ 0 ∷ []) (times 32 emptyBook)
+    ∷ days (times 32 lf) 0 4096 (18 ∷ 0 ∷ 0 ∷ 0 ∷ 0 ∷ []) (bytesOf "FF120000\n")
+    ∷ days (times 32 lf) 0 0 (18 ∷ 0 ∷ 0 ∷ 0 ∷ 0 ∷ []) (bytesOf "FF120000\n")
+    -- a buffer one byte short
+    ∷ days (times 31 lf) 0 287 (19 ∷ 0 ∷ 0 ∷ 0 ∷ 0 ∷ []) (bytesOf "FF130000\n")
+    ∷ days twinBook 6144 43 (19 ∷ 0 ∷ 0 ∷ 0 ∷ 0 ∷ []) (bytesOf "FF130000\n")
+    -- a spent book between two good ones
+    ∷ days (twinBook ++ lf ++ twinSpent ++ lf ++ twinBook) 6144 97 (0 ∷ 0 ∷ 97 ∷ 0 ∷ 0 ∷ []) (twinPlan ++ bytesOf "FF0C0000\n" ++ twinPlan)
+    -- what follows the last empty line, even nothing, is a book
+    ∷ days (twinBook ++ lf) 6144 53 (0 ∷ 0 ∷ 53 ∷ 0 ∷ 0 ∷ []) (twinPlan ++ emptyBook)
+    -- a CR LF line is no empty line: one book, with bytes after its last load line
+    ∷ days (twinBook ++ bytesOf "\r\n" ++ twinBook) 6144 9 (0 ∷ 0 ∷ 9 ∷ 0 ∷ 0 ∷ []) (bytesOf "FF080003\n")
+    -- each book has the whole work area: the second needs more of it than the first; with a word less it is refused by 10, and the first is not
+    ∷ days (twinBook ++ lf ++ bytesOf example) 1056 92 (0 ∷ 0 ∷ 92 ∷ 0 ∷ 0 ∷ []) (twinPlan ++ exampleSheet)
+    ∷ days (twinBook ++ lf ++ bytesOf example) 1055 53 (0 ∷ 0 ∷ 53 ∷ 0 ∷ 0 ∷ []) (twinPlan ++ bytesOf "FF0A0000\n")
+    -- the words that a day may change: the most that a book past 11 needs, wherever it stands; none after 18
+    ∷ frees (twinBook ++ lf ++ bytesOf example) 6144 1056
+    ∷ frees (bytesOf example ++ lf ++ twinBook) 6144 1056
+    ∷ frees (twinBook ++ lf ++ bytesOf example) 1055 32
+    ∷ frees twinSpent 6144 32
+    ∷ frees (times 32 lf ++ twinBook) 6144 0
+    ∷ []
+
 -- of sheets: charges, orders of starting and views, the longest book last
 unfoldable pub sheetRows : List Row
 sheetRows =
@@ -475,10 +527,20 @@ unfolding holds sheetRows refusalLine
     orderResult sheetsOrder loadsOrder starting runningMask andNot startCount wrongNames someBlocked left ready startNext startedAfter startOrder ones onesIn
 sheet-rows-hold = refl
 
-pub table-holds : all holds (planRows ++ standingRows ++ mustRunRows ++ sheetRows) ≡ true
+day-rows-hold : all holds dayRows ≡ true
+unfolding holds dayRows refusalLine plannerResult planSheet fittingBook sizeRules
+    readBook readLoads headerRules loadRules someExceeds standingPairs mustRun optionStart standingPower first
+    isDigit digitValue digit valueFrom field digits signed unsigned lineLength
+    slotsOf plan bestAdmitted cells trials reachedCount sheetBytes firstLine slotLines sumsAndLimits slotLine numbersOf settingOf
+    booksFrom dayOutput dayRules dayOf dayFreeWords freeWords
+day-rows-hold = refl
+
+pub table-holds : all holds (planRows ++ standingRows ++ mustRunRows ++ dayRows ++ sheetRows) ≡ true
 table-holds =
-    joined (planRows ++ standingRows ++ mustRunRows) sheetRows
-    (joined (planRows ++ standingRows) mustRunRows (joined planRows standingRows plan-rows-hold standing-rows-hold) must-run-rows-hold) sheet-rows-hold
+    both (planRows ++ standingRows ++ mustRunRows ++ dayRows) sheetRows
+    (both (planRows ++ standingRows ++ mustRunRows) dayRows
+    (both (planRows ++ standingRows) mustRunRows (both planRows standingRows plan-rows-hold standing-rows-hold) must-run-rows-hold) day-rows-hold)
+    sheet-rows-hold
   where
-    joined : (xs ys : List Row) → all holds xs ≡ true → all holds ys ≡ true → all holds (xs ++ ys) ≡ true
-    joined xs ys e f = all-join holds xs ys ∙ ap₂ _&&_ e f
+    both : (xs ys : List Row) → all holds xs ≡ true → all holds ys ≡ true → all holds (xs ++ ys) ≡ true
+    both xs ys e f = all-join holds xs ys ∙ ap₂ _&&_ e f

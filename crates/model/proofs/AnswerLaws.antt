@@ -1,14 +1,24 @@
--- What a call answers and leaves: of equal results the same, of a refusal the buffer as it was, and in the buffer the bytes that it writes.
+-- What a call answers and leaves: of equal results the same, of a refusal the buffer as it was, and in the buffer the bytes that it writes; and what is
+-- printed of it.
 -- Assumes nothing.
 use mathlib.Core.Path.{_≡_, refl, sym, ap, ap₂, _∙_}
-use mathlib.Core.List.{List, []}
-use Prim.Native.Nat.{ℕ}
-use lib.ListN.{length, take, drop}
+use mathlib.Core.Bool.{cond}
+use mathlib.Core.List.{List, [], _++_}
+use Prim.Native.Nat.{ℕ, _≤_}
+use native.Mathlib.Omega.{arith}
+use lib.Dec.{eqb}
+use borrow.Author.Tests.{ne-eqb}
+use lib.ListN.{length, take, drop, length-append}
 use lib.Seq.{take-at}
 use Rattle.model.specs.declared.Answer.{Answer}
 use Rattle.model.specs.declared.Refusal.{Refusal}
-use Rattle.model.specs.Refusals.{Result, refused, done}
+use Rattle.model.specs.Refusals.{Result, refused, done, numberOf}
 use Rattle.model.specs.Answers.{Output, refusalAnswer, answerOf, bufferAfter, Writes}
+use Rattle.model.specs.Frames.{digits}
+use Rattle.model.specs.Sheet.{lf}
+use Rattle.model.specs.Program.{refusalLine, printed, printedFrom}
+use Rattle.model.proofs.FrameLaws.{length-digits}
+use Rattle.model.proofs.RefusalLaws.{number-some}
 
 -- of equal results the same is written
 pub writes-same : {x y : Result Output} {before after : List ℕ} {a : Answer} → x ≡ y → Writes x before after a → Writes y before after a
@@ -31,3 +41,23 @@ bytes-left (refused r line) {after = after} w = ap (λ (b : Answer). take (b .by
 bytes-left (done x) {before = before} w =
     ap₂ (λ (b : Answer) l. take (b .bytes) l) (w .answers) (w .leaves)
     ∙ take-at (x .bytes) (drop (length (x .bytes)) before) (length (x .bytes)) refl
+
+-- and no more than there are in it
+pub bytes-few : (x : Result Output) {before after : List ℕ} {a : Answer} → Writes x before after a → a .bytes ≤ length after
+bytes-few (refused r line) w = omega (arith, ap (λ (b : Answer). b .bytes) (w .answers))
+bytes-few (done x) {before = before} w =
+    omega (arith, ap (λ (b : Answer). b .bytes) (w .answers), ap length (w .leaves), length-append (x .bytes) (drop (length (x .bytes)) before))
+
+-- what is printed of the answer and the buffer is what is printed of the result
+pub printed-from : (x : Result Output) {before after : List ℕ} {a : Answer} → Writes x before after a → printedFrom a after ≡ printed x
+printed-from (refused r line) {after = after} w =
+    ap (λ (b : Answer). printedFrom b after) (w .answers) ∙ ap (λ t. cond t (take 0 after) (refusalLine (numberOf r) line)) (ne-eqb (numberOf r) 0 (number-some r))
+printed-from (done x) {after = after} {a = a} w =
+    ap (λ (b : Answer). cond (eqb (b .number) 0) (take (a .bytes) after) (refusalLine (b .number) (b .line))) (w .answers) ∙ bytes-left (done x) w
+
+pub length-refusal : (number line : ℕ) → length (refusalLine number line) ≡ 9
+unfolding refusalLine
+length-refusal number line =
+    let n₁ : length (digits 2 255 ++ digits 2 number) ≡ 4 = omega (arith, length-append (digits 2 255) (digits 2 number), length-digits 2 255, length-digits 2 number) in
+    let n₂ : length ((digits 2 255 ++ digits 2 number) ++ digits 4 line) ≡ 8 = omega (arith, n₁, length-append (digits 2 255 ++ digits 2 number) (digits 4 line), length-digits 4 line) in
+    omega (arith, n₂, length-append ((digits 2 255 ++ digits 2 number) ++ digits 4 line) lf)

@@ -38,4 +38,5 @@ pub mod StartLaws
 pub mod ReadingLaws
 pub mod OrderKeptLaws
 pub mod ViewLaws
+pub mod DayLaws
 pub mod AcceptanceTable

@@ -239,9 +239,12 @@ pub length-concat : {A B : Type 0} (f : A → List B) (k : ℕ) → ((x : A) →
 length-concat f k h [] = omega arith
 length-concat f k h (x ∷ xs) = length-append (f x) (concat (map f xs)) ∙ (omega (arith, h x, length-concat f k h xs))
 
+pub concat-join : {A : Type 0} (xss yss : List (List A)) → concat (xss ++ yss) ≡ concat xss ++ concat yss
+concat-join [] yss = refl
+concat-join (xs ∷ xss) yss = ap (λ r. xs ++ r) (concat-join xss yss) ∙ sym (append-assoc xs (concat xss) (concat yss))
+
 pub concat-last : {A : Type 0} (xss : List (List A)) (ys : List A) → concat (xss ++ (ys ∷ [])) ≡ concat xss ++ ys
-concat-last [] ys = append-nil ys
-concat-last (xs ∷ xss) ys = ap (λ r. xs ++ r) (concat-last xss ys) ∙ sym (append-assoc xs (concat xss) ys)
+concat-last xss ys = concat-join xss (ys ∷ []) ∙ ap (λ r. concat xss ++ r) (append-nil ys)
 
 -- of the elements that pass a test, one after the other
 pub concat-keep : {A B : Type 0} (p : A → Bool) (f : A → List B) (xs : List A) → concat (map f (keep p xs)) ≡ concat (map (λ x. cond (p x) (f x) []) xs)

@@ -37,6 +37,13 @@ mostRows = 724
 abbrev pub mostSheet : ℕ
 mostSheet = 19 + 2 * mostLoads + 23 * mostSlots
 
+-- "up to 32 of them come in one call" (document 02, M-107); and the bytes of the longest output of a day
+abbrev pub mostBooks : ℕ
+mostBooks = 32
+
+abbrev pub mostDay : ℕ
+mostDay = mostBooks * mostSheet
+
 -- "The program takes the first 4,096 bytes of its input as the book", "lends 6,144 words"
 abbrev pub programBytes : ℕ
 programBytes = 4096

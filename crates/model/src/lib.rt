@@ -25,6 +25,8 @@ pub enum Refusal {
     WrongNames,
     NamedLoadStands,
     NoPlan,
+    TooManyBooks,
+    OutputTooLong,
 }
 
 // What the table of refusals says: none applies, or the first that does.
@@ -112,7 +114,8 @@ impl Load {
 }
 
 impl Book {
-    // Document 01's upper bounds of T, N, d and o; each lower bound is 1. Then of the cells, and the bytes of the longest sheet.
+    // Document 01's upper bounds of T, N, d and o; each lower bound is 1. Then of the cells, and the bytes of the longest sheet; of a day's books (M-107),
+    // and the bytes of a day's longest output.
     pub const SLOTS: usize = 4;
 
     pub const LOADS: usize = 24;
@@ -124,6 +127,10 @@ impl Book {
     pub const CELLS: usize = 1048576;
 
     pub const SHEET: usize = 19 + 2 * Book::LOADS + 23 * Book::SLOTS;
+
+    pub const BOOKS: usize = 32;
+
+    pub const DAY: usize = Book::BOOKS * Book::SHEET;
 
     pub fn fresh() -> Book
         ensures { λ r. ⌜ r ≡ freshBook ⌝ }
@@ -162,6 +169,8 @@ impl Refusal {
             Refusal::WrongNames => 15,
             Refusal::NamedLoadStands => 16,
             Refusal::NoPlan => 17,
+            Refusal::TooManyBooks => 18,
+            Refusal::OutputTooLong => 19,
         }
     }
 }

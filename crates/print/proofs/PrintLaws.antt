@@ -1,23 +1,21 @@
 -- What is printed, from the planner's answer and the buffer that it was lent.
 -- Assumes nothing.
 use mathlib.Core.Path.{_≡_, refl, sym, ap, ap₂, _∙_}
-use mathlib.Core.Bool.{cond}
 use mathlib.Core.List.{List, _++_}
 use Prim.Native.Nat.{ℕ, _≤_}
 use native.Mathlib.Omega.{arith}
-use lib.ListN.{length, set, length-append}
-use borrow.Author.Tests.{ne-eqb}
+use lib.ListN.{length, take, drop, set, length-append, take-append-drop}
+use lib.Seq.{length-take-le, drop-at}
 use Rattle.model.specs.declared.Answer.{Answer}
 use Rattle.model.specs.Frames.{digits}
-use Rattle.model.specs.Refusals.{Result, refused, done, numberOf}
+use Rattle.model.specs.Refusals.{Result, refused, done}
 use Rattle.model.specs.Answers.{Output, Writes}
 use Rattle.model.specs.Sheet.{lf}
-use Rattle.model.specs.Program.{refusalLine, printed}
+use Rattle.model.specs.Program.{refusalLine, printed, printedFrom}
 use Rattle.model.proofs.FrameLaws.{length-digits}
-use Rattle.model.proofs.RefusalLaws.{number-some}
+use Rattle.model.proofs.AnswerLaws.{printed-from}
 use Rattle.hex.specs.Written.{written}
 use Rattle.hex.proofs.WrittenLaws.{length-written, write-on, write-byte, written-start}
-use Rattle.print.specs.Printing.{printedIn, printedLength}
 
 -- three fields and an LF
 pub refusal-written : (l l₁ l₂ l₃ : List ℕ) (number line : ℕ) → l₁ ≡ written l 0 (digits 2 255) → l₂ ≡ written l₁ 2 (digits 2 number)
@@ -38,21 +36,19 @@ refusal-written l l₁ l₂ l₃ number line e₁ e₂ e₃ h =
     write-byte l₃ 8 10 (omega arith)
     ∙ write-on l l₃ 0 8 ((a ++ b) ++ d) lf w₃ (omega arith) (omega arith)
 
-length-refusal : (number line : ℕ) → length (refusalLine number line) ≡ 9
-unfolding refusalLine
-length-refusal number line =
-    let n₁ : length (digits 2 255 ++ digits 2 number) ≡ 4 = omega (arith, length-append (digits 2 255) (digits 2 number), length-digits 2 255, length-digits 2 number) in
-    let n₂ : length ((digits 2 255 ++ digits 2 number) ++ digits 4 line) ≡ 8 = omega (arith, n₁, length-append (digits 2 255 ++ digits 2 number) (digits 4 line), length-digits 4 line) in
-    omega (arith, n₂, length-append ((digits 2 255 ++ digits 2 number) ++ digits 4 line) lf)
+-- a buffer with its own first bytes written is as it was
+pub own-written : (l : List ℕ) (n : ℕ) → n ≤ length l → l ≡ written l 0 (take n l)
+own-written l n h = sym (written-start l (take n l) ∙ ap (λ m. take n l ++ drop m l) (length-take-le n l h) ∙ take-append-drop n l)
 
--- what is printed of a call is its sheet, or the line of its refusal
-pub printed-is : (x : Result Output) (before buffer : List ℕ) (a : Answer) → Writes x before buffer a
-    → (printedIn a buffer ≡ written before 0 (printed x)) × (printedLength a ≡ length (printed x))
-unfolding printedIn printedLength
-printed-is (refused r line) before buffer a w =
-    let n = ne-eqb (numberOf r) 0 (number-some r) in (
-      ap₂ printedIn (w .answers) (w .leaves) ∙ ap (λ t. cond t before (written before 0 (refusalLine (numberOf r) line))) n,
-      ap printedLength (w .answers) ∙ ap (λ t. cond t 0 9) n ∙ sym (length-refusal (numberOf r) line),
-    )
-printed-is (done s) before buffer a w =
-    (ap₂ printedIn (w .answers) (w .leaves) ∙ sym (written-start before (s .bytes)), ap printedLength (w .answers))
+-- over the buffer that a call left, what is printed of it is written as over the buffer that it was lent
+pub printed-over : (x : Result Output) (before after : List ℕ) (a : Answer) → Writes x before after a
+    → written after 0 (printedFrom a after) ≡ written before 0 (printed x)
+printed-over (refused r line) before after a w = ap₂ (λ l bytes. written l 0 bytes) (w .leaves) (printed-from (refused r line) w)
+printed-over (done s) before after a w =
+    ap₂ (λ l bytes. written l 0 bytes) (w .leaves) (printed-from (done s) w)
+    ∙ written-start (s .bytes ++ rest) (s .bytes)
+    ∙ ap (λ l. s .bytes ++ l) (drop-at (s .bytes) rest (length (s .bytes)) refl)
+    ∙ sym (written-start before (s .bytes))
+  where
+    rest : List ℕ
+    rest = drop (length (s .bytes)) before

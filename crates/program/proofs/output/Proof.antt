@@ -1,5 +1,6 @@
 -- `program::output` meets its contract: what is printed of the planner's answer. Assumes nothing.
-use Rattle.print.proofs.PrintLaws.{printed-is}
+use Rattle.model.proofs.AnswerLaws.{bytes-few, printed-from}
+use Rattle.print.proofs.PrintLaws.{printed-over}
 use Rattle.program.specs.PrintedValue.{printedValue}
 use Rattle.program.proofs.ProgramLaws.{program-is, book-count, value-is}
 use mathlib.Core.Path.{sym, ap, _∙_}
@@ -33,7 +34,7 @@ slice-aggregate-print-answer : tie.Need-slice-aggregate-print-answer
 slice-aggregate-print-answer c = search needs
 
 print-answer-requires : tie.Need-print-answer-requires
-print-answer-requires c κs = search needs
+print-answer-requires c κs = (search needs, bytes-few _ (c .before .before .before .plan .ensures .0))
 
 returns : tie.Need-returns
 returns c =
@@ -42,8 +43,8 @@ returns c =
     let room = c .before .before .before .before .before .before .before .before .before .before .room in
     let end = c .before .before .before .before .before .before .before .before .before .book-length in
     let print = c .before .print-answer .ensures in
-    let p = printed-is _ (room .result) _ _ (c .before .before .before .before .before .plan .ensures .0) in
-    value-is (room .result) _ _ _ (room .ensures) (print .0 ∙ p .0) (print .1 ∙ p .1)
+    let w = c .before .before .before .before .before .plan .ensures .0 in
+    value-is (room .result) _ _ _ (room .ensures) (print .0 ∙ printed-over _ (room .result) _ _ w) (print .1 ∙ ap length (printed-from _ w))
     ∙ ap printedValue (program-is input (words .result) (room .result) (end .result) (end .ensures .0) (end .ensures .1) (words .ensures) (room .ensures))
 
 pub output-spec : {M : Type 1} → statement M

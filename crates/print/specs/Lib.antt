@@ -1,2 +1,0 @@
--- The definitions that the contracts of printing cite.
-pub mod Printing
