@@ -27,17 +27,24 @@ static inline const char *refusal_word(uint64_t number)
     case JADESHUTTLE_WRONG_NAMES: return "names";
     case JADESHUTTLE_NAMED_LOAD_STANDS: return "blocked";
     case JADESHUTTLE_NO_PLAN: return "no plan";
+    case JADESHUTTLE_TOO_MANY_BOOKS: return "too many books";
+    case JADESHUTTLE_OUTPUT_TOO_LONG: return "too long";
     default: return "unknown";
     }
 }
 
-/* One line on standard error, as "refusal 7 (slack) at line 3". */
+/* One line, as "refusal 7 (slack) at line 3". */
+static inline void write_refusal(FILE *file, uint64_t number, uint64_t line)
+{
+    fprintf(file, "refusal %u (%s)", (unsigned)number, refusal_word(number));
+    if (line != 0)
+        fprintf(file, " at line %u", (unsigned)line);
+    fputc('\n', file);
+}
+
 static inline void print_refusal(uint64_t number, uint64_t line)
 {
-    fprintf(stderr, "refusal %u (%s)", (unsigned)number, refusal_word(number));
-    if (line != 0)
-        fprintf(stderr, " at line %u", (unsigned)line);
-    fputc('\n', stderr);
+    write_refusal(stderr, number, line);
 }
 
 #endif

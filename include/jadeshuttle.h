@@ -1,7 +1,7 @@
 /*
  * jadeshuttle.h - the load planner, for programs in C99 and C++.
  *
- * Each call takes a load book and gives an answer by value:
+ * Each call takes a load book, or a day's books, and gives an answer by value:
  *
  *   jadeshuttle_plan        the planner: writes the sheet of the best plan
  *   jadeshuttle_quick       the quick planner: level 1 only, smallest loads first
@@ -10,12 +10,13 @@
  *   jadeshuttle_order       the order of starting: in which a new sheet's loads start
  *   jadeshuttle_mill_view   the mill's view: a sheet's worth, and what runs
  *   jadeshuttle_supply_view the supply company's view: a sheet's slot lines alone
+ *   jadeshuttle_day         the day: plans up to 32 books in one call
  *
  * docs/HANDBOOK.md describes the book and the sheet field by field, what the
  * limits mean for a relay, how large a work area a book needs, what a price is,
  * which loads to name for an order, what each party learns from its view, which
- * loads draw while standing or must run, and what can be done where a book has no
- * plan.
+ * loads draw while standing or must run, what can be done where a book has no plan,
+ * and how a day's books are handed over and their output is read back.
  *
  * THE BOOK  A header line of kind 01, then a line for each load: of kind 02, of kind
  * 06 for a load that draws while it stands, or of kind 07 for a load that must run.
@@ -32,18 +33,19 @@
  *
  * MEMORY THAT YOU LEND
  *   - A call uses the memory only until it returns. It keeps no pointer.
- *   - Lengths are in elements: bytes for a book, a sheet, names, an order and a view,
- *     64-bit words for the work area, 16-bit numbers for prices.
+ *   - Lengths are in elements: bytes for a book, a day's books, a sheet, names, an
+ *     order, a view and a day's output, 64-bit words for the work area, 16-bit numbers
+ *     for prices.
  *   - No pointer may be NULL, not even where its length is 0. `work` is aligned
  *     as a uint64_t is, `prices` as a uint16_t.
  *   - All the bytes that a length names are yours to lend. No length names more
  *     than PTRDIFF_MAX bytes.
  *   - What is written may overlap nothing else: `work` and the planners' `sheet`
- *     lie apart from each other and from `book`, and `order` and `view` from all that
- *     the call reads. What is only read may overlap, so all that the sheet reader and
- *     the charge take.
- *   - `work`, the planners' `sheet`, `order` and `view` need no first values. No
- *     answer depends on them.
+ *     lie apart from each other and from `book`, `work` and `out` from each other and
+ *     from `books`, and `order` and `view` from all that the call reads. What is only
+ *     read may overlap, so all that the sheet reader and the charge take.
+ *   - `work`, the planners' `sheet`, `order`, `view` and `out` need no first values.
+ *     No answer depends on them.
  *
  * The calls cannot test these points. Where one is broken, nothing is promised.
  * Of the values in book, sheet, prices and names, nothing is asked: every input
@@ -52,20 +54,25 @@
  * WHAT A CALL LEAVES BEHIND
  *   - With a sheet (number 0): the first `bytes` bytes of the sheet buffer are the
  *     sheet. It is no C string: no 0 byte follows. The rest of the buffer keeps
- *     its values. The same holds for an order or a view and its buffer.
- *   - With a refusal: no byte of the buffer changes.
+ *     its values. The same holds for an order, a view or a day's output and its
+ *     buffer.
+ *   - With a refusal: no byte of the buffer changes. A day is refused with 18 or 19; a
+ *     refused book of a day is a line of the output.
  *   - The work area: with a sheet, refusal 12 or refusal 17, the first 4 x cells
  *     words hold anything, and the words past them keep their values. With refusals
- *     1 to 11 no word changes.
+ *     1 to 11 no word changes. With a day's output, and with refusal 19, the words
+ *     keep their values that no book with a sheet, 12 or 17 needs; with refusal 18 no
+ *     word changes.
  *   - The book never changes, nor does anything else that a call only reads.
  *
  * THREADS  There is no state. Calls may run at the same time in several threads,
  * as long as each has its own memory to write: `work`, the planners' `sheet`,
- * `order`, and `view`. What is only read may be shared.
+ * `order`, `view`, and `out`. What is only read may be shared.
  *
  * STACK, HEAP  Nothing is allocated. Stack used by a call, as measured on x86-64
- * Linux: planner up to 80 KiB, quick planner up to 57 KiB, sheet reader, charge,
- * order and views up to 35 KiB. Leave 128 KiB of stack for a call.
+ * Linux: planner up to 77 KiB, day up to 82 KiB, as its output waits there until it is
+ * known to fit, quick planner up to 56 KiB, sheet reader, charge, order and views up
+ * to 35 KiB. Leave 128 KiB of stack for a call.
  *
  * ERRORS  A call always returns. It prints nothing, and sets no errno.
  */
@@ -79,24 +86,27 @@
 extern "C" {
 #endif
 
-/* Bounds. Buffers of these sizes are large enough for every book. */
+/* Bounds. Buffers of these sizes are large enough for every book and every day. */
 #define JADESHUTTLE_BOOK_MAX 3513     /* bytes of the longest book: T = 4, N = 24, kind 06, three levels each */
 #define JADESHUTTLE_SHEET_MAX 159     /* bytes of the longest sheet: 19 + 2N + 23T for N = 24, T = 4 */
 #define JADESHUTTLE_ORDER_MAX 24      /* bytes of the longest order: N = 24 */
 #define JADESHUTTLE_VIEW_MAX 107      /* bytes of the longest view: the mill's, 11 + 4N for N = 24 */
 #define JADESHUTTLE_CELLS_MAX 1048576 /* cells; a book with more is refused as oversize */
 #define JADESHUTTLE_WORK_MAX 4194304  /* words of the work area for that many cells: 4 a cell, 32 MiB */
+#define JADESHUTTLE_BOOKS_MAX 32      /* books of a day; more are refused as too many */
+#define JADESHUTTLE_DAY_MAX 5088      /* bytes of a day's longest output: 32 sheets of 159 bytes */
 
 /*
  * What `number` says. Lines are read in order, and on each line 1 to 7 are tried
  * in this order, as far as they concern it; then 8 to 17, but the 11 of an order or
  * a view comes last. The first that applies is given. `line` is the number of the
- * line in the book, from 1, for 1 to 8; it is 0 for success and from 9 on. Each
- * comment begins with the handbook's word.
+ * line in the book, from 1, for 1 to 8; it is 0 for success and from 9 on. The day
+ * answers only 18, and then 19: what its books are refused with, 1 to 10, 12 and 17,
+ * stands in its output. Each comment begins with the handbook's word.
  */
 enum jadeshuttle_number {
     JADESHUTTLE_SUCCESS = 0,
-    /* All calls: the book. */
+    /* All calls but the day: the book. */
     JADESHUTTLE_UNTERMINATED = 1,                   /* torn: a line is due and no LF follows */
     JADESHUTTLE_NOT_HEX = 2,                        /* smudged: a byte of the line is no digit 0-9 A-F */
     JADESHUTTLE_WRONG_KIND = 3,                     /* stray: fewer than 4 digits, or kind not one that is due */
@@ -120,16 +130,19 @@ enum jadeshuttle_number {
     JADESHUTTLE_WRONG_NAMES = 15,       /* names: not N of them, or one is neither 0 nor a higher load's number */
     JADESHUTTLE_NAMED_LOAD_STANDS = 16, /* blocked: a load that starts names one that stands in the new sheet */
     /* The planner and the quick planner. */
-    JADESHUTTLE_NO_PLAN = 17 /* no plan: no choice is admitted; quick planner: what it begins with breaks a limit */
+    JADESHUTTLE_NO_PLAN = 17, /* no plan: no choice is admitted; quick planner: what it begins with breaks a limit */
+    /* The day only. */
+    JADESHUTTLE_TOO_MANY_BOOKS = 18, /* too many books: more than 32 */
+    JADESHUTTLE_OUTPUT_TOO_LONG = 19 /* too long: the output is longer than the buffer */
 };
 
-/* What the planners and the views answer. With a refusal, bytes, worth and trials are 0. */
+/* What the planners, the views and the day answer. With a refusal, bytes, worth and trials are 0. */
 typedef struct jadeshuttle_answer {
     uint64_t number; /* 0, or the refusal's number */
-    uint64_t line;   /* the refused line of the book, or 0 */
-    uint64_t bytes;  /* bytes of the sheet or the view that were written */
-    uint64_t worth;  /* worth of the sheet's choice; for a view, 0 */
-    uint64_t trials; /* the book's trials; for the quick planner, N; for a view, 0 */
+    uint64_t line;   /* the refused line of the book, or 0; for a day, 0 */
+    uint64_t bytes;  /* bytes of the sheet, the view or the day's output that were written */
+    uint64_t worth;  /* worth of the sheet's choice; for a view or a day, 0 */
+    uint64_t trials; /* the book's trials; for the quick planner, N; for a view or a day, 0 */
 } jadeshuttle_answer;
 
 /* What the sheet reader answers. With a refusal, all after line is 0. */
@@ -286,6 +299,41 @@ jadeshuttle_answer jadeshuttle_mill_view(const uint8_t *book, size_t book_len,
 jadeshuttle_answer jadeshuttle_supply_view(const uint8_t *book, size_t book_len,
                                            const uint8_t *sheet, size_t sheet_len,
                                            uint8_t *view, size_t view_len);
+
+/*
+ * A day's books at once, 1 to 32 of them, parted by empty lines. An empty line is an
+ * LF at the start of `books` or right after an LF; CR LF is none. Each empty line ends
+ * a book just before it, and its LF belongs to no book. What follows the last one,
+ * even nothing, is the last book. So there is one book more than empty lines: no
+ * bytes at all are one empty book, and an LF too many at the end is one book more.
+ *
+ * Each book, with all its bytes, goes to the planner alone, with the whole work area
+ * and a sheet buffer that suffices. What the program loadplan would print of the
+ * planner's answers is written in the order of the books: the sheet, or for a refused
+ * book one line: FF, its number (2 digits), its line (4 digits), all hexadecimal,
+ * ended by LF. The line is counted within the book. An empty book gives FF010001.
+ *
+ * To read the output back, look at the first two digits of each line: 04 begins a
+ * sheet, 05 is a slot line of the sheet that was begun, and FF is a refused book. So
+ * the k-th line that begins with 04 or FF begins what book k has. A sheet has T + 1
+ * lines and 19 + 2N + 23T bytes; its worth and its trials stand on its first line.
+ *
+ * The work area serves one book after the other: it has to be as large as the largest
+ * of them needs. A book that needs more is refused (10), and the others are not.
+ *
+ * Gives 18, before any book is planned, and then 19, which shows only when all of them
+ * are. JADESHUTTLE_DAY_MAX bytes always suffice.
+ *
+ * Of every list of books that each end in LF and hold no empty line, joined by an LF
+ * between each and the next:
+ *   - for 1 to 32 books whose outputs fit, answer and written bytes are the answers of
+ *     jadeshuttle_plan to the books, one by one, in that form and joined;
+ *   - a refused book does not touch its neighbours: whatever one book holds, what is
+ *     put out for those before it and after it is the same.
+ */
+jadeshuttle_answer jadeshuttle_day(const uint8_t *books, size_t books_len,
+                                   uint64_t *work, size_t work_len,
+                                   uint8_t *out, size_t out_len);
 
 #ifdef __cplusplus
 }

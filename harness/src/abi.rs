@@ -248,8 +248,9 @@ pub fn refusals(model: &Source) -> Parsed<Vec<(String, u64)>> {
         .collect()
 }
 
-/// The sizes that are large enough for every book, computed from the constants of the source's `Book`.
-pub fn sizes(model: &Source) -> Parsed<[(&'static str, u64); 6]> {
+/// The sizes that are large enough for every book and every day, and the most books of a day, computed from the constants of
+/// the source's `Book`.
+pub fn sizes(model: &Source) -> Parsed<[(&'static str, u64); 8]> {
     let bounds = bounds(model)?;
     let bound = |name: &str| {
         let found = bounds.get(name).copied();
@@ -267,6 +268,8 @@ pub fn sizes(model: &Source) -> Parsed<[(&'static str, u64); 6]> {
         ("VIEW_MAX", mill_view.max(supply_view)),
         ("CELLS_MAX", bound("CELLS")?),
         ("WORK_MAX", 4 * bound("CELLS")?),
+        ("BOOKS_MAX", bound("BOOKS")?),
+        ("DAY_MAX", bound("DAY")?),
     ])
 }
 

@@ -83,10 +83,11 @@ pub enum Function {
     Order,
     MillView,
     SupplyView,
+    Day,
 }
 
-/// A function and what it is given; what it does not take is empty. `sheet` is a sheet that is read, or the buffer;
-/// `planned` is the order's new sheet, or the sheet that a view shows.
+/// A function and what it is given; what it does not take is empty. `book` is a book, or a day's books; `sheet` is a sheet that
+/// is read, or the buffer; `planned` is the order's new sheet, or the sheet that a view shows.
 #[derive(Clone, Copy)]
 pub struct Input<'a> {
     pub function: Function,
@@ -160,6 +161,13 @@ impl<'a> Input<'a> {
             ..Input::mill_view(book, shown, buffer)
         }
     }
+
+    pub fn day(books: &'a [u8], words: &'a [u64], buffer: &'a [u8]) -> Input<'a> {
+        Input {
+            function: Function::Day,
+            ..Input::plan(books, words, buffer)
+        }
+    }
 }
 
 /// A call that was made, and all memory that it could reach.
@@ -197,6 +205,7 @@ impl Call {
             }
             Function::MillView => crate::mill_view(book.part(), planned.part(), sheet.part_mut()).into(),
             Function::SupplyView => crate::supply_view(book.part(), planned.part(), sheet.part_mut()).into(),
+            Function::Day => crate::day(book.part(), work.part_mut(), sheet.part_mut()).into(),
         };
         Call {
             function: input.function,
@@ -215,6 +224,17 @@ impl Call {
     pub fn has_guards(&self) -> bool {
         let bytes = [&self.book, &self.sheet, &self.running, &self.planned, &self.names];
         bytes.into_iter().all(Lent::has_guards) && self.work.has_guards() && self.prices.has_guards()
+    }
+
+    /// The answer, and the bytes that it says were written.
+    pub fn left(&self) -> Outcome {
+        let (answer, buffer) = (self.answer.clone(), self.sheet.part());
+        let written = buffer.len().min(answer.first.bytes as usize);
+        Outcome {
+            answer,
+            sheet: buffer[..written].to_vec(),
+            ..Outcome::default()
+        }
     }
 
     /// Everything in which the call left something else than it has to.
@@ -254,7 +274,7 @@ impl Call {
         let [sheet, running, planned] =
             [&self.sheet, &self.running, &self.planned].map(|lent| lent.part().escape_ascii());
         match self.function {
-            Function::Plan => format!("{start}, {words} words, buffer of {bytes}"),
+            Function::Plan | Function::Day => format!("{start}, {words} words, buffer of {bytes}"),
             Function::Quick => format!("{start}, buffer of {bytes}"),
             Function::ReadSheet => format!("{start}, sheet \"{sheet}\""),
             Function::Charge => format!("{start}, sheet \"{sheet}\", prices {:?}", self.prices.part()),

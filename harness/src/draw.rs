@@ -1,4 +1,7 @@
-//! Random valid books, the twin of a book, the longest book, a book with the longest sheet and views, and the bytes of a book.
+//! Random valid books, the twin of a book, the longest book, a book with the longest sheet and views, and the bytes of a book;
+//! days of books in a module of their own.
+
+pub mod days;
 
 use crate::random::Random;
 use crate::reference::book::{Book, Level, Load};

@@ -1,5 +1,7 @@
 //! The kinds of inputs that the archive is compared on. A run of a kind makes one call or more.
 
+pub mod days;
+
 use crate::call::Input;
 use crate::damage::{changed, fault, of_each_kind, plausible, reorder, shift, STYLES};
 use crate::draw::{self, Bounds, Eighths};
@@ -17,27 +19,27 @@ pub struct Kind {
 }
 
 pub const KINDS: &[Kind] = &[
-    kind("small books", 680, small_books),
+    kind("small books", 600, small_books),
     kind("larger grids", 100, larger_grids),
     kind("many loads", 150, many_loads),
     kind("large tables", 20, large_tables),
-    kind("budgets", 500, budgets),
+    kind("budgets", 450, budgets),
     kind("work areas", 350, work_areas),
-    kind("sheet buffers", 400, buffers),
-    kind("several shortages", 400, shortages),
-    kind("words of earlier plans", 350, earlier_words),
-    kind("oversize books", 250, too_many_cells),
+    kind("sheet buffers", 350, buffers),
+    kind("several shortages", 350, shortages),
+    kind("words of earlier plans", 320, earlier_words),
+    kind("oversize books", 200, too_many_cells),
     kind("1,048,576 cells", 2, full_tables),
-    kind("one fault", 590, one_fault),
-    kind("two faults", 500, two_faults),
-    kind("truncated books", 650, truncated_books),
-    kind("a byte changed", 1_000, changed_books),
-    kind("bytes inserted, deleted", 300, shifted_books),
+    kind("one fault", 500, one_fault),
+    kind("two faults", 450, two_faults),
+    kind("truncated books", 550, truncated_books),
+    kind("a byte changed", 850, changed_books),
+    kind("bytes inserted, deleted", 250, shifted_books),
     kind("lines exchanged", 200, reordered_books),
     kind("random bytes", 100, random_bytes),
     kind("random digits", 100, random_digits),
     kind("sheets of choices", 250, sheets_of_choices),
-    kind("sheets, a byte changed", 300, changed_sheets),
+    kind("sheets, a byte changed", 250, changed_sheets),
     kind("sheets, cut or longer", 150, cut_sheets),
     kind("sheets of other books", 50, foreign_sheets),
     kind("sheets, level above o", 48, levels_above),
@@ -60,6 +62,15 @@ pub const KINDS: &[Kind] = &[
     kind("must run, start too large", 150, must_run_start_too_large),
     kind("sheets, must run stands", 150, must_run_stands),
     kind("kinds of load lines", 100, line_kinds),
+    kind("days", 100, days::right_books),
+    kind("days, refused books", 120, days::refused_books),
+    kind("days, empty lines", 120, days::empty_lines),
+    kind("days, numbers of books", 80, days::numbers_of_books),
+    kind("days, long books", 60, days::long_books),
+    kind("days, work areas", 100, days::work_areas),
+    kind("days, one by one", 120, days::one_by_one),
+    kind("days, bytes changed", 99, days::changed_days),
+    kind("days, most output", 1, days::most_output),
 ];
 
 const fn kind(name: &'static str, share: u64, run: fn(&mut Session)) -> Kind {
@@ -166,6 +177,7 @@ fn all_calls(session: &mut Session, case: &Case) {
     let words = 4 * case.cells() as usize + session.random.below(50);
     let buffer = case.sheet_bytes() + session.random.below(50);
     session.plan(case, words, buffer);
+    session.day(case, words, buffer);
     session.quick(case, buffer);
     let choice = planned_choice(&mut session.random, case, book);
     let planned = sheet::write(book, &choice, case.planned().trials);
@@ -182,7 +194,7 @@ fn all_calls(session: &mut Session, case: &Case) {
 }
 
 /// The calls on bytes that may be no book.
-const CALLS: [fn(&mut Session, &Case); 7] = [
+const CALLS: [fn(&mut Session, &Case); 8] = [
     plan_any,
     quick_any,
     read_any,
@@ -190,6 +202,7 @@ const CALLS: [fn(&mut Session, &Case); 7] = [
     order_any,
     mill_view_any,
     supply_view_any,
+    days::day_any,
 ];
 
 fn one_call(session: &mut Session, case: &Case) {
@@ -765,6 +778,7 @@ fn standing_draws_nothing(session: &mut Session) {
         Input::order(&[], &running, &planned, &names, &buffer),
         Input::mill_view(&[], &planned, &buffer),
         Input::supply_view(&[], &planned, &buffer),
+        Input::day(&[], &words, &buffer),
     ] {
         session.call_alike(&cases, input);
     }

@@ -2,6 +2,7 @@
 
 pub mod book;
 pub mod charge;
+pub mod day;
 pub mod grid;
 pub mod must_run;
 pub mod order;
@@ -43,11 +44,13 @@ pub struct Outcome {
     pub free_words: usize,
 }
 
-/// The bytes of a book, right or wrong, and what the calls have to leave for it.
+/// The bytes of a book, right or wrong, or of a day's books, and what the calls have to leave for them.
 pub struct Case {
     pub text: Vec<u8>,
     pub book: Result<Book, Refusal>,
     planned: OnceCell<Compared>,
+    /// The books of a day; none where these bytes are one book.
+    parts: OnceCell<Vec<Case>>,
 }
 
 /// The plan, and what is wrong with the reference itself if its two ways to a plan differ.
@@ -71,8 +74,12 @@ impl Compared {
 impl Case {
     pub fn new(text: Vec<u8>) -> Case {
         let book = book::read(&text);
-        let planned = OnceCell::new();
-        Case { text, book, planned }
+        Case {
+            text,
+            book,
+            planned: OnceCell::new(),
+            parts: OnceCell::new(),
+        }
     }
 
     /// The case of the same book with another budget. The plan does not depend on the budget and is found once.
@@ -110,7 +117,21 @@ impl Case {
     }
 
     pub fn doubt(&self) -> Option<&str> {
-        self.planned.get()?.doubt.as_deref()
+        let own = self.planned.get().and_then(|compared| compared.doubt.as_deref());
+        let mut parts = self.parts.get().into_iter().flatten();
+        own.or_else(|| parts.find_map(Case::doubt))
+    }
+
+    /// The books of the day that these bytes are. Where they hold no empty line, they are one book, whose plan is found once.
+    pub fn books(&self) -> Vec<&Case> {
+        let parts = self.parts.get_or_init(|| match day::books(&self.text) {
+            books if books.len() == 1 => Vec::new(),
+            books => books.into_iter().map(Case::new).collect(),
+        });
+        match parts.is_empty() {
+            true => vec![self],
+            false => parts.iter().collect(),
+        }
     }
 
     /// The cells of a book that was read, 0 for another.
@@ -133,6 +154,7 @@ impl Case {
             Function::Order => self.order(input.running, input.planned, input.names, input.sheet.len()),
             Function::MillView => self.mill_view(input.planned, input.sheet.len()),
             Function::SupplyView => self.supply_view(input.planned, input.sheet.len()),
+            Function::Day => self.day(input.words.len(), input.sheet.len()),
         }
     }
 
@@ -208,19 +230,23 @@ impl Case {
         refuse_if(!order::names_are_right(names, book.loads.len()), 15)?;
         refuse_if(order::some_named_load_stands(&old, &new, names), 16)?;
         let counts = [(&old, &new), (&new, &old)].map(|(from, to)| order::starting(from, to).count() as u64);
-        fitting(order::of(&old, &new, names), buffer, counts.to_vec())
+        fitting(order::of(&old, &new, names), buffer, 11, counts.to_vec())
     }
 
     pub fn mill_view(&self, sheet: &[u8], buffer: usize) -> Outcome {
         self.read_with(sheet)
-            .and_then(|(book, choice, _)| fitting(views::mill(book, &choice), buffer, Vec::new()))
+            .and_then(|(book, choice, _)| fitting(views::mill(book, &choice), buffer, 11, Vec::new()))
             .unwrap_or_else(refused::<0>)
     }
 
     pub fn supply_view(&self, sheet: &[u8], buffer: usize) -> Outcome {
         self.read_with(sheet)
-            .and_then(|_| fitting(views::supply(sheet), buffer, Vec::new()))
+            .and_then(|_| fitting(views::supply(sheet), buffer, 11, Vec::new()))
             .unwrap_or_else(refused::<0>)
+    }
+
+    pub fn day(&self, words: usize, buffer: usize) -> Outcome {
+        day::of(&self.books(), words, buffer)
     }
 
     /// The book, after refusals 1 to 8.
@@ -274,9 +300,10 @@ pub fn written(book: &Book, choice: &[usize], trials: u64) -> Outcome {
     }
 }
 
-/// An order or a view, and the numbers after the first five; refusal 11 where it is longer than the buffer.
-fn fitting(bytes: Vec<u8>, buffer: usize, further: Vec<u64>) -> Result<Outcome, Refusal> {
-    refuse_if(buffer < bytes.len(), 11)?;
+/// An order, a view or a day's output, and the numbers after the first five; a refusal with this number where it is longer than
+/// the buffer.
+fn fitting(bytes: Vec<u8>, buffer: usize, number: u64, further: Vec<u64>) -> Result<Outcome, Refusal> {
+    refuse_if(buffer < bytes.len(), number)?;
     let first = Answer {
         bytes: bytes.len() as u64,
         ..Answer::default()

@@ -2,6 +2,8 @@
 //! mistake each, which must be reported; what is as it was must not be. Each call and run, altered or not, and each
 //! reference in each of its calls, is one check.
 
+mod days;
+
 use crate::call::{Call, Function, Input};
 use crate::damage::fault;
 use crate::draw;
@@ -11,7 +13,7 @@ use crate::reference::book::{self, Book, Load};
 use crate::reference::plan::{self, Plan, Planned};
 use crate::reference::{must_run, quick, sheet, written, Case, Outcome, EXAMPLE};
 use crate::session::Session;
-use crate::{Answer, SHEET_MAX};
+use crate::{Answer, DAY_MAX, SHEET_MAX};
 use std::cmp::Reverse;
 
 /// The words that the bench book needs: L = 1 and R = 10, so cells are 11 × 24.
@@ -137,13 +139,14 @@ const SUPPLY: &[Alteration] = &[
     ("first line of the sheet shown", |call| call.sheet.put(BENCH_SHEET)),
 ];
 
-/// For the planner alone: words of the work area that no call may change.
+/// For the planner and for a day: words of the work area that no call may change.
 const KEPT_WORDS: &[Alteration] = &[
     ("word past the needed ones", |call| call.work.flip(NEED as isize)),
     ("last word lent", |call| call.work.flip_from_end(-1)),
 ];
 
-/// For the planner alone: free after a sheet and after refusals 12 and 17, and to be reported after any other.
+/// For the planner and for a day: free after a sheet and after refusals 12 and 17, so where one of a day's books has them, also
+/// with 19; and to be reported after any other.
 const NEEDED_WORDS: &[Alteration] = &[
     ("first needed word", |call| call.work.flip(0)),
     ("last needed word", |call| call.work.flip(NEED as isize - 1)),
@@ -288,8 +291,8 @@ impl Checks {
 pub fn run() -> Checks {
     let mut checks = Checks::default();
     let bases = [bases(), view_bases(), standing_plan_bases(), standing_sheet_bases()];
-    let must_run_bases = [must_run_plan_bases(), must_run_sheet_bases()];
-    for base in bases.iter().chain(&must_run_bases).flatten() {
+    let later_bases = [must_run_plan_bases(), must_run_sheet_bases(), days::bases()];
+    for base in bases.iter().chain(&later_bases).flatten() {
         check_base(&mut checks, base);
     }
     for (name, alter) in FIELDS {
@@ -314,12 +317,13 @@ fn check_base(checks: &mut Checks, base: &Base) {
         Function::Order => &[FURTHER, ORDERED],
         Function::MillView => &[SHOWN, MILL],
         Function::SupplyView => &[SHOWN, SUPPLY],
+        Function::Day => &[KEPT_WORDS],
     };
     let more = more.iter().copied().flatten().chain(base.own);
     for alteration in FIELDS.iter().chain(MEMORY).chain(more) {
         checks.reported(base, alteration, true);
     }
-    if base.call.function == Function::Plan {
+    if [Function::Plan, Function::Day].contains(&base.call.function) {
         let kept = base.expected.free_words == 0;
         for alteration in NEEDED_WORDS {
             checks.reported(base, alteration, kept);
@@ -339,9 +343,10 @@ fn check_session(checks: &mut Checks, name: &str, alter: fn(&mut Call)) {
 const GROUPS: &[(Books, &[&[Mistake]])] = &[
     (RIGHT, &[STANDING_MISTAKES, MUST_RUN_MISTAKES]),
     (SLACK, &[READING_MISTAKES]),
+    (days::DAYS, &[days::PARTING_MISTAKES, days::ANSWER_MISTAKES]),
 ];
 
-/// Both planners, then the calls that take a sheet.
+/// Both planners, then the calls that take a sheet, then the day.
 const EVERY: &[Function] = &[
     Function::Plan,
     Function::Quick,
@@ -350,10 +355,12 @@ const EVERY: &[Function] = &[
     Function::Order,
     Function::MillView,
     Function::SupplyView,
+    Function::Day,
 ];
 
 const PLANNERS: &[Function] = EVERY.split_at(2).0;
-const READERS: &[Function] = EVERY.split_at(2).1;
+const READERS: &[Function] = EVERY.split_at(2).1.split_at(5).0;
+const DAY: &[Function] = EVERY.split_at(7).1;
 const PLAN: &[Function] = &[Function::Plan];
 const QUICK: &[Function] = &[Function::Quick];
 
@@ -510,11 +517,12 @@ fn check_reference(checks: &mut Checks, (books, draw): &Books, (name, functions,
     }
 }
 
-/// Whether this call on the book differs from a reference. The planners have a buffer that suffices and one that does
-/// not; on the sheets, loads that must run may stand.
+/// Whether this call on the book, or on a day's books, differs from a reference. The planners have a buffer that suffices and
+/// one that does not; on the sheets, loads that must run may stand.
 fn differs(random: &mut Random, case: &Case, function: Function, reference: fn(&Case, Input) -> Outcome) -> bool {
     let text = &case.text;
-    let (words, free) = (vec![7; 4 * SMALL.cells as usize], [0; SHEET_MAX]);
+    let (words, room) = (vec![7; 4 * SMALL.cells as usize], [0; DAY_MAX]);
+    let free = &room[..SHEET_MAX];
     let short = &free[..case.sheet_bytes().saturating_sub(1)];
     let [running, planned] = [(); 2].map(|_| sheet_of_any(random, case));
     let (slots, loads) = case
@@ -523,17 +531,22 @@ fn differs(random: &mut Random, case: &Case, function: Function, reference: fn(&
         .map_or((0, 0), |book| (book.limits.len(), book.loads.len()));
     let (prices, names) = (vec![40; slots], vec![0; loads]);
     let inputs = [
-        Input::plan(text, &words, &free),
+        Input::plan(text, &words, free),
         Input::plan(text, &words, short),
-        Input::quick(text, &free),
+        Input::quick(text, free),
         Input::quick(text, short),
         Input::read_sheet(text, &planned),
         Input::charge(text, &planned, &prices),
-        Input::order(text, &running, &planned, &names, &free),
-        Input::mill_view(text, &planned, &free),
-        Input::supply_view(text, &planned, &free),
+        Input::order(text, &running, &planned, &names, free),
+        Input::mill_view(text, &planned, free),
+        Input::supply_view(text, &planned, free),
     ];
-    let mut made = inputs.into_iter().filter(|input| input.function == function);
+    let of_day = match function {
+        Function::Day => days::inputs(random, case, &words, &room),
+        _ => Vec::new(),
+    };
+    let of_book = inputs.into_iter().filter(|input| input.function == function);
+    let mut made = of_book.chain(of_day);
     made.any(|input| {
         let complaints = Call::new(random, input).complaints(&reference(case, input));
         !complaints.is_empty()

@@ -9,7 +9,7 @@ use crate::NUMBERS;
 const MOST_DIFFERENCES: usize = 20;
 
 /// The functions with their names, in the order of `enum Function`.
-const FUNCTIONS: [(Function, &str); 7] = [
+const FUNCTIONS: [(Function, &str); 8] = [
     (Function::Plan, "plan"),
     (Function::Quick, "quick"),
     (Function::ReadSheet, "read_sheet"),
@@ -17,6 +17,7 @@ const FUNCTIONS: [(Function, &str); 7] = [
     (Function::Order, "order"),
     (Function::MillView, "mill_view"),
     (Function::SupplyView, "supply_view"),
+    (Function::Day, "day"),
 ];
 
 pub struct Session {
@@ -98,6 +99,33 @@ impl Session {
             let buffer = self.bytes(buffer);
             self.call_leaving(&expected, case, Input::supply_view(&case.text, sheet, &buffer));
         }
+    }
+
+    /// The planner on each of these books, in one work area; what the calls left.
+    pub fn plan_each(&mut self, books: &[Case], words: usize) -> Vec<Outcome> {
+        let mut work = self.words(words);
+        let mut plans = Vec::new();
+        for book in books {
+            let buffer = book.sheet_bytes() + self.random.below(20);
+            let call = self.plan_over(book, &work, buffer);
+            work.copy_from_slice(call.work.part());
+            plans.push(Outcome {
+                free_words: book.plan(words, buffer).free_words,
+                ..call.left()
+            });
+        }
+        plans
+    }
+
+    /// A day's books, with so many words and bytes lent, which hold anything.
+    pub fn day(&mut self, case: &Case, words: usize, buffer: usize) {
+        self.day_leaving(&case.day(words, buffer), case, words, buffer);
+    }
+
+    /// A day's books, which have to leave this.
+    pub fn day_leaving(&mut self, expected: &Outcome, case: &Case, words: usize, buffer: usize) {
+        let (words, buffer) = (self.words(words), self.bytes(buffer));
+        self.call_leaving(expected, case, Input::day(&case.text, &words, &buffer));
     }
 
     /// A call on two books that mean the same: both have to leave what the first has to.

@@ -48,13 +48,10 @@ fn read(trials: &mut Trials) -> Verdict {
             same(want, got)
         });
     }
-    for file in [
-        project::files("examples", ".book")?,
-        project::files("examples", ".sheet")?,
-    ]
-    .concat()
-    {
-        trials.check(&format!("{file} is used"), || used(&file, &blocks));
+    for end in [".book", ".sheet", ".books", ".sheets"] {
+        for file in project::files("examples", end)? {
+            trials.check(&format!("{file} is used"), || used(&file, &blocks));
+        }
     }
     trials.check("examples/close.book is a row of the proved table", proved_overload);
     for book in PROVED_BOOKS {

@@ -1,5 +1,5 @@
 //! The C header and the examples: compares `include/jadeshuttle.h` with the Rattle source, compiles it and the examples as C99
-//! and as C++17, and plans every example's book.
+//! and as C++17, and plans every example's book and day.
 
 use harness::abi::{self, Call, Parsed, Source, Struct, Type};
 use harness::project::{self, same, silent};
@@ -8,6 +8,13 @@ use std::path::{Path, PathBuf};
 use std::process::{Command, ExitCode};
 
 const HEADER: &str = "include/jadeshuttle.h";
+
+/// How the names of files end that are planned, and of what comes of them; and the example that does it.
+const PLANNED: [(&str, &str, &str); 2] = [
+    (".book", ".sheet", "examples/plan.c"),
+    (".books", ".sheets", "examples/day.cpp"),
+];
+
 const WARNINGS: [&str; 6] = ["-pedantic", "-Wall", "-Wextra", "-Werror", "-O2", "-Iinclude"];
 
 fn main() -> ExitCode {
@@ -223,12 +230,14 @@ fn examples(trials: &mut Trials, scratch: &Path) -> Verdict {
         let name = source.trim_start_matches("examples/");
         trials.check(&format!("{name} compiles"), || build(&source, scratch).map(drop));
     }
-    for book in project::files("examples", ".book")? {
-        trials.check(&format!("{book} gives its sheet"), || {
-            let sheet = project::bytes(book.replace(".book", ".sheet"))?;
-            let (_, printed) = project::run(Command::new(build("examples/plan.c", scratch)?).arg(&book))?;
-            same(sheet, printed)
-        });
+    for (from, to, source) in PLANNED {
+        for file in project::files("examples", from)? {
+            let due = file.replace(from, to);
+            trials.check(&format!("{file} gives {due}"), || {
+                let (_, printed) = project::run(Command::new(build(source, scratch)?).arg(&file))?;
+                same(project::bytes(due)?, printed)
+            });
+        }
     }
     Ok(())
 }

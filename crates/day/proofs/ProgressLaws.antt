@@ -1,6 +1,6 @@
 -- The books of a day one after the other: what is put out for them, and the words that they may change.
 -- Assumes nothing.
-use mathlib.Core.Path.{_≡_, refl, sym, ap, ap₂, _∙_, subst}
+use mathlib.Core.Path.{_≡_, refl, sym, ap, _∙_}
 use mathlib.Core.Bool.{true}
 use mathlib.Core.List.{List, [], _∷_, _++_}
 use Prim.Native.Nat.{ℕ, max, _+_, _*_, _-_, _<_, _≤_}
@@ -12,7 +12,7 @@ use Rattle.model.specs.Bounds.{mostSheet}
 use Rattle.model.specs.Calls.{freeWords}
 use Rattle.model.specs.Trials.{WordsKept}
 use Rattle.model.specs.Day.{booksOf, bookOutput, dayOutput, mostFree}
-use Rattle.model.proofs.DayLaws.{output-few}
+use Rattle.model.proofs.DayLaws.{output-few, outputs-few}
 use Rattle.hex.specs.Written.{written}
 use Rattle.hex.proofs.WrittenLaws.{length-written, written-none, write-on}
 use Rattle.day.specs.BookLength.{bookLength}
@@ -29,12 +29,6 @@ kept-then n m a b c h k l =
     past xs = let e : m + (n - m) ≡ n = omega arith in drop-drop (n - m) m xs ∙ ap (λ i. drop i xs) e
 
 -- ---- outputs
-
-outputs-few : (words : ℕ) (books : List (List ℕ)) → length (dayOutput words books) ≤ length books * mostSheet
-unfolding dayOutput
-outputs-few words [] = omega arith
-outputs-few words (book ∷ books) =
-    omega (arith, length-append (bookOutput words book) (dayOutput words books), output-few words book, outputs-few words books)
 
 output-next : (words : ℕ) (book : List ℕ) (books : List (List ℕ)) → dayOutput words (book ∷ books) ≡ bookOutput words book ++ dayOutput words books
 unfolding dayOutput

@@ -1,8 +1,8 @@
 -- The day's result and its words by cases: 18, 19, and the output.
 -- Assumes nothing.
-use mathlib.Core.Path.{_≡_, refl, sym, ap, ap₂, _∙_}
+use mathlib.Core.Path.{_≡_, sym, ap, _∙_}
 use mathlib.Core.Bool.{cond}
-use mathlib.Core.List.{List, [], _∷_, _++_}
+use mathlib.Core.List.{List, [], _∷_}
 use Prim.Native.Nat.{ℕ, _<_, _≤_}
 use native.Mathlib.Omega.{arith}
 use lib.Dec.{ltb}
@@ -12,8 +12,8 @@ use borrow.Author.Tests.{lt-ltb, le-ltb}
 use Rattle.model.specs.declared.Answer.{Answer}
 use Rattle.model.specs.declared.Refusal.the-variants.{TooManyBooks, OutputTooLong}
 use Rattle.model.specs.Bounds.{mostBooks}
-use Rattle.model.specs.Refusals.{refused, done, _⇒_, checked}
-use Rattle.model.specs.Answers.{bytesOnly, successAnswer, refusalAnswer, answerOf, Writes}
+use Rattle.model.specs.Refusals.{done, _⇒_, checked}
+use Rattle.model.specs.Answers.{bytesOnly, successAnswer, refusalAnswer, Writes}
 use Rattle.model.specs.Day.{booksOf, dayOutput, dayRules, dayOf, mostFree, dayFreeWords}
 use Rattle.model.proofs.RefusalLaws.{first-here, first-next}
 use Rattle.model.proofs.AnswerLaws.{writes-same, refused-writes}

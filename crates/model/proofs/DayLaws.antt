@@ -5,19 +5,18 @@ use mathlib.Core.Bool.{Bool, true, false, cond, _&&_}
 use mathlib.Core.Logic.{inl}
 use mathlib.Core.List.{List, [], _∷_, _++_, map, map-append, append-assoc, append-nil}
 use mathlib.Core.Option.{Option, none, some}
-use Prim.Native.Nat.{ℕ, suc, _+_, _≤_}
+use Prim.Native.Nat.{ℕ, suc, _+_, _*_, _≤_}
 use native.Mathlib.Omega.{arith}
 use lib.Dec.{ltb, eqb}
 use lib.ListN.{length, length-append, length-map}
 use borrow.Author.Tests.{eqb-true, le-ltb}
 use Rattle.model.specs.declared.Answer.{Answer}
 use Rattle.model.specs.declared.Finding.{Finding}
-use Rattle.model.specs.declared.Finding.the-variants.{Passed, Refused}
 use Rattle.model.specs.declared.Refusal.the-variants.{TooManyCells, WorkTooSmall, BufferTooSmall, NoPlan}
-use Rattle.model.specs.Lists.{Every, concat}
+use Rattle.model.specs.Lists.{concat}
 use Rattle.model.specs.Bounds.{mostCells, mostSheet, mostBooks}
 use Rattle.model.specs.Refusals.{Result, refused, done, _⇒_, first, checked, andThen, numberOf}
-use Rattle.model.specs.Answers.{Output, bytesOnly, answerOf, Writes}
+use Rattle.model.specs.Answers.{Output, bytesOnly, answerOf}
 use Rattle.model.specs.Book.{Problem, readBook}
 use Rattle.model.specs.Choice.{Choice}
 use Rattle.model.specs.Grid.{plan}
@@ -26,7 +25,7 @@ use Rattle.model.specs.Sheet.{lf, sheetBytes, sheetOf, sheetLength}
 use Rattle.model.specs.Calls.{sizeRules, fitting, fittingBook, planned, planSheet, plannerResult}
 use Rattle.model.specs.Demand.{Past12}
 use Rattle.model.specs.Program.{printed}
-use Rattle.model.specs.Day.{booksFrom, booksOf, emptyLinesFrom, emptyLines, joined, Whole, SplitJoined, JoinedSplit, bookOutput, dayOutput, dayRules, dayOf, dayResult, PlanCall, printedOf, OneByOne, Neighbours}
+use Rattle.model.specs.Day.{booksFrom, booksOf, emptyLinesFrom, emptyLines, joined, Whole, SplitJoined, JoinedSplit, bookOutput, dayOutput, dayRules, dayOf, AlwaysFits, PlanCall, printedOf, OneByOne, Neighbours}
 use Rattle.model.proofs.ListLaws.{both-true, every-map, concat-join}
 use Rattle.model.proofs.RefusalLaws.{first-none, refused-done, done-same}
 use Rattle.model.proofs.AnswerLaws.{writes-same, printed-from, length-refusal}
@@ -190,6 +189,12 @@ output-few words book = go (plannerResult book words mostSheet) refl
         let p = past-only book words mostSheet (inl (ap (λ r. answerOf r .number) e)) in
         at-plan (p .0) (p .1) (plan (p .0)) refl x (sym (past-result book words mostSheet (p .0) (p .1)) ∙ e)
 
+pub outputs-few : (words : ℕ) (books : List (List ℕ)) → length (dayOutput words books) ≤ length books * mostSheet
+unfolding dayOutput
+outputs-few words [] = omega arith
+outputs-few words (book ∷ books) =
+    omega (arith, length-append (bookOutput words book) (dayOutput words books), output-few words book, outputs-few words books)
+
 -- ---- one by one
 
 module _ (words : ℕ) where
@@ -211,6 +216,11 @@ module _ (words : ℕ) where
       ap (λ f. checked 0 f (done (bytesOnly (dayOutput words books))))
       (first-none (dayRules (length books) (length (dayOutput words books)) room)
       (le-ltb mostBooks (length books) few, (le-ltb room (length (dayOutput words books)) fits, tt)))
+
+-- A BUFFER FOR THE LONGEST OUTPUT is enough for every day of few books
+pub always-fits : AlwaysFits
+always-fits input words room few h =
+    day-given words (booksOf input) room few (omega (arith, few, h, outputs-few words (booksOf input)))
 
 -- A DAY IS ITS BOOKS ONE BY ONE
 pub one-by-one : OneByOne

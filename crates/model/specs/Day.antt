@@ -8,7 +8,7 @@ use lib.ListN.{length}
 use Rattle.model.specs.declared.Answer.{Answer}
 use Rattle.model.specs.declared.Refusal.the-variants.{TooManyBooks, OutputTooLong}
 use Rattle.model.specs.Lists.{Every, concat}
-use Rattle.model.specs.Bounds.{mostSheet, mostBooks}
+use Rattle.model.specs.Bounds.{mostSheet, mostBooks, mostDay}
 use Rattle.model.specs.Refusals.{Result, done, Rule, _⇒_, first, checked}
 use Rattle.model.specs.Answers.{Output, bytesOnly, Writes}
 use Rattle.model.specs.Sheet.{lf}
@@ -17,9 +17,9 @@ use Rattle.model.specs.Program.{printed, printedFrom}
 
 -- ---- books and the bytes that hold them
 
--- the books in these bytes, where `book` was read of the first; `starts` says whether a line starts here, which is so at the start of the input and after each
--- LF. "Books are parted by an empty line (LF alone)": an LF where a line starts. "Each empty line ends a book just before it; what follows the last
--- one, even nothing, is the last book."
+-- "Books are parted by an empty line (LF alone)": an LF where a line starts, which is at the start of the input and after each LF. "Each empty line ends a
+-- book just before it; what follows the last one, even nothing, is the last book." `book` is what was read of the first book, and `starts` says whether
+-- a line starts here
 unfoldable pub booksFrom : List ℕ → Bool → List ℕ → List (List ℕ)
 booksFrom book starts [] = book ∷ []
 booksFrom book starts (b ∷ bs) = cond (starts && eqb b 10) (book ∷ booksFrom [] true bs) (booksFrom (book ++ (b ∷ [])) (eqb b 10) bs)
@@ -80,6 +80,11 @@ dayOf books words room =
 -- the day of an input
 abbrev pub dayResult : List ℕ → ℕ → ℕ → Result Output
 dayResult input words room = dayOf (booksOf input) words room
+
+-- with a buffer for 32 of the longest sheets 19 is never given (proofs/DayLaws, `always-fits`)
+abbrev pub AlwaysFits : Type 0
+AlwaysFits = (input : List ℕ) (words room : ℕ) → length (booksOf input) ≤ mostBooks → mostDay ≤ room
+    → dayResult input words room ≡ done (bytesOnly (dayOutput words (booksOf input)))
 
 -- the most words that one of these books needs, of those "past refusal 11"
 abbrev pub mostFree : ℕ → List (List ℕ) → ℕ

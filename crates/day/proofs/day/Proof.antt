@@ -1,5 +1,5 @@
 -- `day::day` meets its contract: 18, then what all books put out, and with it 19 or the output. Assumes nothing.
-use mathlib.Core.Path.{refl, sym, ap, subst, _∙_}
+use mathlib.Core.Path.{refl, sym, subst}
 use Prim.Native.Nat.{_≤_}
 use lib.ListN.{length}
 use lib.Seq.{length-take-le}

@@ -1,14 +1,11 @@
 -- `day::write_book` meets its contract: what is printed of the planner's answer. Assumes nothing.
-use mathlib.Core.Path.{sym, ap, ap₂, subst, _∙_}
+use mathlib.Core.Path.{ap, subst, _∙_}
 use lib.ListN.{length}
-use Rattle.model.specs.Bounds.{mostSheet}
-use Rattle.model.specs.Calls.{plannerResult, freeFor}
 use Rattle.model.specs.Trials.{WordsKept}
 use Rattle.model.proofs.AnswerLaws.{bytes-few, printed-from}
 use Rattle.print.proofs.PrintLaws.{printed-over}
 use Rattle.day.proofs.DayWriteLaws.{same-output, same-free}
 use Rattle.hex.specs.Written.{written}
-use native.Mathlib.Omega.{arith}
 use borrow.Author.Needs.{needs}
 use Rattle.day.proofs.write_book.Statement.{statement}
 use Rattle.day.proofs.write_book.Tie as tie
