@@ -12,12 +12,13 @@ use Rattle.model.specs.Refusals.{done}
 use Rattle.model.specs.Answers.{bufferAfter}
 use Rattle.model.specs.Sheet.{sheetBytes, sheetLength, sheetOf}
 use Rattle.model.specs.Values.{Held, Picked, choiceOf, problemOf}
+use Rattle.model.proofs.ValidLaws.{sheet-few}
 use Rattle.model.proofs.HeldLaws.{held-valid}
 use Rattle.sheet.proofs.WriteLaws.{bytes-length}
 
--- no sheet has more than 159 bytes
+-- the sheet fits an array of 159 bytes
 pub sheet-room : (book : Book) (h : Held book) (n : ℕ) → n ≡ sheetLength (problemOf book) → n ≤ mostSheet
-sheet-room book h n e = omega (arith, held-valid book h .slots-few, held-valid book h .loads-few)
+sheet-room book h n e = omega (arith, sheet-few (problemOf book) (held-valid book h))
 
 -- a buffer of which as many bytes were lent as the sheet has
 module _ (book : Book) (h : Held book) (picks : List ℕ) (picked : Picked (problemOf book) picks) (trials n : ℕ) (l last : List ℕ)

@@ -1,5 +1,5 @@
 -- Laws of the day.
 pub mod SplitLaws
-pub mod DayWriteLaws
+pub mod BookLaws
 pub mod ProgressLaws
 pub mod ResultLaws

@@ -52,6 +52,6 @@ module _ (books : List (List ℕ)) (words : ℕ) (out : List ℕ) (a : Answer) w
       (record { answers = e ∙ ap (λ m. successAnswer m 0 0) q; leaves = c ∙ ap (written out 0) t ∙ written-start out o })
 
 -- the words that are needed, where there are not too many books
-pub free-is : (input : List ℕ) (words : ℕ) → length (booksOf input) ≤ mostBooks → mostFree words (booksOf input) ≡ dayFreeWords input words
+pub few-free : (input : List ℕ) (words : ℕ) → length (booksOf input) ≤ mostBooks → mostFree words (booksOf input) ≡ dayFreeWords input words
 unfolding dayFreeWords
-free-is input words h = sym (ap (λ t. cond t 0 (mostFree words (booksOf input))) (le-ltb mostBooks (length (booksOf input)) h))
+few-free input words h = sym (ap (λ t. cond t 0 (mostFree words (booksOf input))) (le-ltb mostBooks (length (booksOf input)) h))

@@ -1,4 +1,4 @@
-// A day's books at once: what the program prints for each of them, one after the other, or refusals 18 and 19.
+// A day's books at once: the planner's answer to each of them, in the form in which the program prints it, one after the other, or refusals 18 and 19.
 use model::Answer;
 use model::Book;
 use model::Refusal;

@@ -87,7 +87,7 @@ pub extern "C" fn jadeshuttle_supply_view(book: &[u8], sheet: &[u8], view: &mut 
     views::supply_view(book, sheet, view)
 }
 
-// A day's books at once: what the program prints for each of them, one after the other, or refusals 18 and 19.
+// A day's books at once: the planner's answer to each of them, in the form in which the program prints it, one after the other, or refusals 18 and 19.
 #[no_mangle]
 pub extern "C" fn jadeshuttle_day(books: &[u8], work: &mut [u64], out: &mut [u8]) -> Answer
     ensures result { λ r. ⌜ Writes (dayResult (now (books .entry)) (length (now (work .entry))) (length (now (out .entry)))) (now (out .entry)) (now (out .exit)) r ⌝ }

@@ -73,10 +73,10 @@ pub data Row : Type 0 where
   -- the mill's view of a book and a sheet, the supply company's, or the quick planner's sheet for the book, in a buffer of so many bytes: the answer's five
   -- numbers, and what is written, printed as the program prints a sheet
   shows : (List ℕ → List ℕ → ℕ → Result Output) → List ℕ → List ℕ → ℕ → List ℕ → String → Row
-  -- the day of these bytes, with a work area of so many words and a buffer of so many bytes: the answer's five numbers, and what is written, printed as
-  -- the program prints a sheet
+  -- the day of these bytes, with a work area of so many words and a buffer of so many bytes: the answer's five numbers, and its output, or of a refusal
+  -- the line that the program would print
   days : List ℕ → ℕ → ℕ → List ℕ → List ℕ → Row
-  -- of a work area of so many words, the day of these bytes may change the first of them, so many
+  -- the day of these bytes, with a work area of so many words, may change so many of them, the first
   frees : List ℕ → ℕ → ℕ → Row
 
 abbrev printsFor : String → String → Bool
@@ -392,8 +392,8 @@ twinPlan = bytesOf "04000000010000000201\n050000000900000001000A\n"
 abbrev twinSpent : List ℕ
 twinSpent = bytesOf "0101010100000000000A\n0201000100090001\n"
 
-abbrev emptyBook : List ℕ
-emptyBook = bytesOf "FF010001\n"
+abbrev emptyOutput : List ℕ
+emptyOutput = bytesOf "FF010001\n"
 
 abbrev times : ℕ → List ℕ → List ℕ
 times n bytes = concat (replicate n bytes)
@@ -402,10 +402,10 @@ times n bytes = concat (replicate n bytes)
 unfoldable pub dayRows : List Row
 dayRows =
     -- an empty input is one empty book; two LFs at the start are two, each ended by an empty line
-    days [] 6144 9 (0 ∷ 0 ∷ 9 ∷ 0 ∷ 0 ∷ []) emptyBook
-    ∷ days (lf ++ lf ++ twinBook) 6144 62 (0 ∷ 0 ∷ 62 ∷ 0 ∷ 0 ∷ []) (emptyBook ++ emptyBook ++ twinPlan)
+    days [] 6144 9 (0 ∷ 0 ∷ 9 ∷ 0 ∷ 0 ∷ []) emptyOutput
+    ∷ days (lf ++ lf ++ twinBook) 6144 62 (0 ∷ 0 ∷ 62 ∷ 0 ∷ 0 ∷ []) (emptyOutput ++ emptyOutput ++ twinPlan)
     -- 32 and 33 books, and 33 books and a buffer of 0 bytes: 18 comes before 19
-    ∷ days (times 31 lf) 0 288 (0 ∷ 0 ∷ 288 ∷ 0 ∷ 0 ∷ []) (times 32 emptyBook)
+    ∷ days (times 31 lf) 0 288 (0 ∷ 0 ∷ 288 ∷ 0 ∷ 0 ∷ []) (times 32 emptyOutput)
     ∷ days (times 32 lf) 0 4096 (18 ∷ 0 ∷ 0 ∷ 0 ∷ 0 ∷ []) (bytesOf "FF120000\n")
     ∷ days (times 32 lf) 0 0 (18 ∷ 0 ∷ 0 ∷ 0 ∷ 0 ∷ []) (bytesOf "FF120000\n")
     -- a buffer one byte short
@@ -414,7 +414,7 @@ dayRows =
     -- a spent book between two good ones
     ∷ days (twinBook ++ lf ++ twinSpent ++ lf ++ twinBook) 6144 97 (0 ∷ 0 ∷ 97 ∷ 0 ∷ 0 ∷ []) (twinPlan ++ bytesOf "FF0C0000\n" ++ twinPlan)
     -- what follows the last empty line, even nothing, is a book
-    ∷ days (twinBook ++ lf) 6144 53 (0 ∷ 0 ∷ 53 ∷ 0 ∷ 0 ∷ []) (twinPlan ++ emptyBook)
+    ∷ days (twinBook ++ lf) 6144 53 (0 ∷ 0 ∷ 53 ∷ 0 ∷ 0 ∷ []) (twinPlan ++ emptyOutput)
     -- a CR LF line is no empty line: one book, with bytes after its last load line
     ∷ days (twinBook ++ bytesOf "\r\n" ++ twinBook) 6144 9 (0 ∷ 0 ∷ 9 ∷ 0 ∷ 0 ∷ []) (bytesOf "FF080003\n")
     -- each book has the whole work area: the second needs more of it than the first; with a word less it is refused by 10, and the first is not

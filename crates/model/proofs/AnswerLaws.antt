@@ -55,9 +55,11 @@ printed-from (refused r line) {after = after} w =
 printed-from (done x) {after = after} {a = a} w =
     ap (λ (b : Answer). cond (eqb (b .number) 0) (take (a .bytes) after) (refusalLine (b .number) (b .line))) (w .answers) ∙ bytes-left (done x) w
 
+-- the line of a refusal has 9 bytes
 pub length-refusal : (number line : ℕ) → length (refusalLine number line) ≡ 9
 unfolding refusalLine
 length-refusal number line =
-    let n₁ : length (digits 2 255 ++ digits 2 number) ≡ 4 = omega (arith, length-append (digits 2 255) (digits 2 number), length-digits 2 255, length-digits 2 number) in
-    let n₂ : length ((digits 2 255 ++ digits 2 number) ++ digits 4 line) ≡ 8 = omega (arith, n₁, length-append (digits 2 255 ++ digits 2 number) (digits 4 line), length-digits 4 line) in
-    omega (arith, n₂, length-append ((digits 2 255 ++ digits 2 number) ++ digits 4 line) lf)
+    let ab = digits 2 255 ++ digits 2 number in
+    let n₁ : length ab ≡ 4 = omega (arith, length-append (digits 2 255) (digits 2 number), length-digits 2 255, length-digits 2 number) in
+    let n₂ : length (ab ++ digits 4 line) ≡ 8 = omega (arith, n₁, length-append ab (digits 4 line), length-digits 4 line) in
+    omega (arith, n₂, length-append (ab ++ digits 4 line) lf)

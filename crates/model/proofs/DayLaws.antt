@@ -25,30 +25,16 @@ use Rattle.model.specs.Sheet.{lf, sheetBytes, sheetOf, sheetLength}
 use Rattle.model.specs.Calls.{sizeRules, fitting, fittingBook, planned, planSheet, plannerResult}
 use Rattle.model.specs.Demand.{Past12}
 use Rattle.model.specs.Program.{printed}
-use Rattle.model.specs.Day.{booksFrom, booksOf, emptyLinesFrom, emptyLines, joined, Whole, SplitJoined, JoinedSplit, bookOutput, dayOutput, dayRules, dayOf, AlwaysFits, PlanCall, printedOf, OneByOne, Neighbours}
+use Rattle.model.specs.Day.{booksFrom, booksOf, emptyLinesFrom, emptyLines, joined, Whole, SplitJoined, JoinedSplit, bookOutput, AnySuffices, dayOutput, dayRules, dayOf, AlwaysFits, PlanCall, printedOf, OneByOne, Neighbours}
 use Rattle.model.proofs.ListLaws.{both-true, every-map, concat-join}
 use Rattle.model.proofs.RefusalLaws.{first-none, refused-done, done-same}
 use Rattle.model.proofs.AnswerLaws.{writes-same, printed-from, length-refusal}
 use Rattle.model.proofs.PlanLaws.{chosen-length, plan-is}
 use Rattle.model.proofs.SheetLaws.{sheet-length}
 use Rattle.model.proofs.SheetGivenLaws.{past-result, past-only}
-use Rattle.model.proofs.ValidLaws.{book-valid}
+use Rattle.model.proofs.ValidLaws.{book-valid, sheet-few}
 
 -- ---- splitting
-
--- there is a first book
-first-book : (book : List ℕ) (starts : Bool) (bytes : List ℕ) → (x : List ℕ) × (more : List (List ℕ)) × (booksFrom book starts bytes ≡ x ∷ more)
-unfolding booksFrom
-first-book book starts [] = (book, [], refl)
-first-book book starts (b ∷ bs) = go (starts && eqb b 10) (first-book (book ++ (b ∷ [])) (eqb b 10) bs)
-  where
-    rest : List (List ℕ)
-    rest = booksFrom (book ++ (b ∷ [])) (eqb b 10) bs
-
-    go : (t : Bool) → (x : List ℕ) × (more : List (List ℕ)) × (rest ≡ x ∷ more)
-        → (x : List ℕ) × (more : List (List ℕ)) × (cond t (book ∷ booksFrom [] true bs) rest ≡ x ∷ more)
-    go true h = (book, booksFrom [] true bs, refl)
-    go false h = h
 
 -- a day has one book more than empty lines
 pub books-counted : (book : List ℕ) (starts : Bool) (bytes : List ℕ) → length (booksFrom book starts bytes) ≡ suc (emptyLinesFrom starts bytes)
@@ -99,13 +85,16 @@ split-joined (book ∷ []) h w = last-book [] true book (w .0 .no-empty-line)
 split-joined (book ∷ next ∷ books) h w =
     let lines = w .0 .lines in
     let e : book ++ lf ++ joined (next ∷ books) ≡ lines ++ (10 ∷ 10 ∷ joined (next ∷ books))
-    = ap (λ x. x ++ lf ++ joined (next ∷ books)) (w .0 .ends) ∙ append-assoc (lines ++ lf) lf (joined (next ∷ books)) ∙ append-assoc lines lf (lf ++ joined (next ∷ books)) in
+    = ap (λ x. x ++ lf ++ joined (next ∷ books)) (w .0 .ends)
+    ∙ append-assoc (lines ++ lf) lf (joined (next ∷ books))
+    ∙ append-assoc lines lf (lf ++ joined (next ∷ books)) in
     ap booksOf e
     ∙ next-book [] true lines (joined (next ∷ books)) (ap emptyLines (sym (w .0 .ends)) ∙ w .0 .no-empty-line)
     ∙ ap₂ {C = List (List ℕ)} (λ x xs. x ∷ xs) (sym (w .0 .ends)) (split-joined (next ∷ books) (omega arith) (w .1))
 
-joined-more : (book : List ℕ) (books : List (List ℕ)) (x : List ℕ) (more : List (List ℕ)) → books ≡ x ∷ more → joined (book ∷ books) ≡ book ++ lf ++ joined books
-joined-more book books x more e = ap (λ b. joined (book ∷ b)) e ∙ ap (λ b. book ++ lf ++ joined b) (sym e)
+joined-more : (book : List ℕ) (books : List (List ℕ)) → 1 ≤ length books → joined (book ∷ books) ≡ book ++ lf ++ joined books
+joined-more book [] h = absurd (omega arith)
+joined-more book (x ∷ more) h = refl
 
 joined-from : (book : List ℕ) (starts : Bool) (bytes : List ℕ) → joined (booksFrom book starts bytes) ≡ book ++ bytes
 unfolding booksFrom
@@ -116,8 +105,7 @@ joined-from book starts (b ∷ bs) = go (starts && eqb b 10) refl (joined-from [
         → joined (booksFrom (book ++ (b ∷ [])) (eqb b 10) bs) ≡ (book ++ (b ∷ [])) ++ bs
         → joined (cond t (book ∷ booksFrom [] true bs) (booksFrom (book ++ (b ∷ [])) (eqb b 10) bs)) ≡ book ++ (b ∷ bs)
     go true q e f =
-        let h = first-book [] true bs in
-        joined-more book (booksFrom [] true bs) (h .0) (h .1) (h .2)
+        joined-more book (booksFrom [] true bs) (omega (arith, books-counted [] true bs))
         ∙ append-assoc book lf (joined (booksFrom [] true bs))
         ∙ ap₂ (λ c xs. book ++ (c ∷ xs)) (sym (eqb-true b 10 (both-true starts (eqb b 10) q .1))) e
     go false q e f = f ∙ append-assoc book (b ∷ []) bs
@@ -129,6 +117,7 @@ joined-split input = joined-from [] true input
 -- ---- a buffer that suffices
 
 module _ (words : ℕ) where
+  -- of a book that was read, 11 apart, the sizes are refused alike
   at-sizes : (b : Problem) (room : ℕ) → sheetLength b ≤ mostSheet → (answerOf (andThen (fitting words room b) planSheet) .number ≡ 11 → ⊥)
       → fitting words room b ≡ fitting words mostSheet b
   unfolding sizeRules first
@@ -144,31 +133,31 @@ module _ (words : ℕ) where
       go false false true n = absurd (n refl)
       go false false false n = ap (λ v. checked 0 (sizes false false v) (done b)) (sym (le-ltb mostSheet (sheetLength b) h))
 
+  at-book : (book : List ℕ) (room : ℕ) → ((b : Problem) → readBook book ≡ done b → fitting words room b ≡ fitting words mostSheet b)
+      → fittingBook book words room ≡ fittingBook book words mostSheet
+  unfolding fittingBook
+  at-book book room f = go (readBook book) refl
+    where
+      go : (x : Result Problem) → readBook book ≡ x → andThen x (fitting words room) ≡ andThen x (fitting words mostSheet)
+      go (refused r line) e = refl
+      go (done b) e = f b e
+
   -- of two buffers that are long enough, the sizes are refused alike
   pub long-suffices : (book : List ℕ) (room : ℕ) → mostSheet ≤ room → fittingBook book words room ≡ fittingBook book words mostSheet
-  unfolding fittingBook sizeRules
-  long-suffices book room h = at-book (readBook book) refl
-    where
-      at-book : (x : Result Problem) → readBook book ≡ x → andThen x (fitting words room) ≡ andThen x (fitting words mostSheet)
-      at-book (refused r line) e = refl
-      at-book (done b) e =
-          let v = book-valid book b e in
-          let l : sheetLength b ≤ mostSheet = omega (arith, v .loads-few, v .slots-few) in
-          ap (λ t. checked 0 (first ((ltb mostCells (cells b) ⇒ TooManyCells) ∷ (ltb words (neededWords b) ⇒ WorkTooSmall) ∷ (t ⇒ BufferTooSmall) ∷ [])) (done b))
-          (le-ltb room (sheetLength b) (omega arith) ∙ sym (le-ltb mostSheet (sheetLength b) l))
+  unfolding sizeRules
+  long-suffices book room h =
+      at-book book room
+      (λ b e. let l : sheetLength b ≤ mostSheet = sheet-few b (book-valid book b e) in
+      ap (λ t. checked 0 (first ((ltb mostCells (cells b) ⇒ TooManyCells) ∷ (ltb words (neededWords b) ⇒ WorkTooSmall) ∷ (t ⇒ BufferTooSmall) ∷ [])) (done b))
+      (le-ltb room (sheetLength b) (omega arith) ∙ sym (le-ltb mostSheet (sheetLength b) l)))
 
-  -- EVERY BUFFER THAT SUFFICES, for which 11 is not given, gives the same result
-  pub any-suffices : (book : List ℕ) (room : ℕ) → (answerOf (plannerResult book words room) .number ≡ 11 → ⊥)
-      → plannerResult book words room ≡ plannerResult book words mostSheet
-  unfolding plannerResult fittingBook
-  any-suffices book room n = at-book (readBook book) refl n
-    where
-      at-book : (x : Result Problem) → readBook book ≡ x → (answerOf (andThen (andThen x (fitting words room)) planSheet) .number ≡ 11 → ⊥)
-          → andThen (andThen x (fitting words room)) planSheet ≡ andThen (andThen x (fitting words mostSheet)) planSheet
-      at-book (refused r line) e n = refl
-      at-book (done b) e n =
-          let v = book-valid book b e in
-          ap (λ x. andThen x planSheet) (at-sizes b room (omega (arith, v .loads-few, v .slots-few)) n)
+-- EVERY BUFFER THAT SUFFICES gives the same result
+pub any-suffices : AnySuffices
+unfolding plannerResult fittingBook
+any-suffices words book room n =
+    ap (λ x. andThen x planSheet)
+    (at-book words book room
+    (λ b e. at-sizes words b room (sheet-few b (book-valid book b e)) (λ q. n (ap (λ x. answerOf (andThen (andThen x (fitting words room)) planSheet) .number) e ∙ q))))
 
 -- ---- how long an output is
 
@@ -237,9 +226,8 @@ one-by-one words calls h few whole before after answer fits w =
 -- A BOOK DOES NOT TOUCH ITS NEIGHBOURS
 pub neighbours : Neighbours
 unfolding dayOutput
-neighbours words above below book w =
-    let books = above ++ (book ∷ below) in
-    ap (dayOutput words) (split-joined books (omega (arith, length-append above (book ∷ below))) w)
+neighbours words input above below book e =
+    ap (dayOutput words) e
     ∙ ap concat (map-append (bookOutput words) above (book ∷ below))
     ∙ concat-join (map (bookOutput words) above) (map (bookOutput words) (book ∷ below))
     ∙ sym (append-assoc (dayOutput words above) (bookOutput words book) (dayOutput words below))

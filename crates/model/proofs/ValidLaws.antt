@@ -11,12 +11,13 @@ use lib.ListN.{length, getD}
 use borrow.Author.Tests.{ltb-false, not-false}
 use Rattle.model.specs.declared.Finding.the-variants.{Passed}
 use Rattle.model.specs.Lists.{within, uptoFrom, upto, keepIf, any, Every}
-use Rattle.model.specs.Bounds.{mostLoads, mostFineness}
+use Rattle.model.specs.Bounds.{mostLoads, mostFineness, mostSheet}
 use Rattle.model.specs.Frames.{field, lineOf, afterLine}
 use Rattle.model.specs.Refusals.{Result, done, first, andThen}
 use Rattle.model.specs.Book.{Power, noPower, Setting, Settings, Problem, slotCount, loadCount, finenessIn, problem, optionCount, standingPairs, mustRun, optionStart, powerAt, optionOn, options, standingPower, standing, settings, lineRule, headerRules, reactiveExceeds, someExceeds, loadRules, endRules, readLoads, readBook}
 use Rattle.model.specs.Choice.{leastOf}
 use Rattle.model.specs.MustRun.{leastNumber}
+use Rattle.model.specs.Sheet.{sheetLength}
 use Rattle.model.specs.Valid.{SettingKept, Numbered, Labelled, SettingSmall, ValidLoads, ValidBook}
 use Rattle.model.proofs.ListLaws.{both-true, within-is, every-at, every-imp, every-image, every-getD, any-false}
 use Rattle.model.proofs.UptoLaws.{length-upto}
@@ -264,3 +265,7 @@ book-most bytes =
     let whole : List Settings → Result Problem = λ ls. done (problem line ls) in
     checked-most 8 1 (lineRule bytes ∷ headerRules line) (andThen rest whole) (omega arith, header-rules-most line)
     (then-most 8 rest whole (loads-most (slotCount line) (loadCount line) 2 (afterLine bytes)) (λ ls. tt))
+
+-- no sheet has more than 159 bytes
+pub sheet-few : (b : Problem) → ValidBook b → sheetLength b ≤ mostSheet
+sheet-few b v = omega (arith, v .slots-few, v .loads-few)

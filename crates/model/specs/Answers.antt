@@ -16,7 +16,7 @@ pub record Output : Type 0 where
   pub worth : ℕ
   pub trials : ℕ
 
--- of a call that plans nothing; document 02: "New parts other than planners carry worth and trials 0"
+-- of a call whose own answer has neither; document 02: "New parts other than planners carry worth and trials 0", and M-107's "in the day's own answer"
 abbrev pub bytesOnly : List ℕ → Output
 bytesOnly bytes = record { bytes = bytes; worth = 0; trials = 0 }
 

@@ -1,4 +1,4 @@
--- Document 01's bounds and the sizes that follow from them, each number once. The code has them as constants of the types that they bound, and the
+-- Document 01's bounds, the 32 books of document 02's M-107, and the sizes that follow from them, each number once. The code has them as constants of the types that they bound, and the
 -- program's two in crate program. The largest charges follow from them too.
 use Prim.Native.Nat.{ℕ, _*_, _+_, _/_}
 

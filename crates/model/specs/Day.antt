@@ -10,19 +10,22 @@ use Rattle.model.specs.declared.Refusal.the-variants.{TooManyBooks, Outp
 use Rattle.model.specs.Lists.{Every, concat}
 use Rattle.model.specs.Bounds.{mostSheet, mostBooks, mostDay}
 use Rattle.model.specs.Refusals.{Result, done, Rule, _⇒_, first, checked}
-use Rattle.model.specs.Answers.{Output, bytesOnly, Writes}
+use Rattle.model.specs.Answers.{Output, bytesOnly, answerOf, Writes}
 use Rattle.model.specs.Sheet.{lf}
 use Rattle.model.specs.Calls.{plannerResult, freeWords}
 use Rattle.model.specs.Program.{printed, printedFrom}
 
 -- ---- books and the bytes that hold them
 
--- "Books are parted by an empty line (LF alone)": an LF where a line starts, which is at the start of the input and after each LF. "Each empty line ends a
--- book just before it; what follows the last one, even nothing, is the last book." `book` is what was read of the first book, and `starts` says whether
--- a line starts here
+-- "Books are parted by an empty line (LF alone)": an LF where a line starts, which is at the start of the input and after each LF
+abbrev pub emptyLine : Bool → ℕ → Bool
+emptyLine starts b = starts && eqb b 10
+
+-- "Each empty line ends a book just before it; what follows the last one, even nothing, is the last book." `book` is what was read of the first book, and
+-- `starts` says whether a line starts here
 unfoldable pub booksFrom : List ℕ → Bool → List ℕ → List (List ℕ)
 booksFrom book starts [] = book ∷ []
-booksFrom book starts (b ∷ bs) = cond (starts && eqb b 10) (book ∷ booksFrom [] true bs) (booksFrom (book ++ (b ∷ [])) (eqb b 10) bs)
+booksFrom book starts (b ∷ bs) = cond (emptyLine starts b) (book ∷ booksFrom [] true bs) (booksFrom (book ++ (b ∷ [])) (eqb b 10) bs)
 
 -- the books of an input
 abbrev pub booksOf : List ℕ → List (List ℕ)
@@ -31,7 +34,7 @@ booksOf input = booksFrom [] true input
 -- how many empty lines there are. A day has one book more (proofs/DayLaws, `books-counted`)
 unfoldable pub emptyLinesFrom : Bool → List ℕ → ℕ
 emptyLinesFrom starts [] = 0
-emptyLinesFrom starts (b ∷ bs) = cond (starts && eqb b 10) 1 0 + emptyLinesFrom (eqb b 10) bs
+emptyLinesFrom starts (b ∷ bs) = cond (emptyLine starts b) 1 0 + emptyLinesFrom (eqb b 10) bs
 
 abbrev pub emptyLines : List ℕ → ℕ
 emptyLines bytes = emptyLinesFrom true bytes
@@ -59,9 +62,14 @@ JoinedSplit = (input : List ℕ) → joined (booksOf input) ≡ input
 -- ---- the day
 
 -- "the plain planner's answer to each book alone, given all its bytes, that work area and a buffer that suffices, in the form in which the program prints
--- it, a refusal line included". Every buffer that suffices gives the same (proofs/DayLaws, `any-suffices`)
+-- it, a refusal line included"; the books "share one work area": each is given all its words
 abbrev pub bookOutput : ℕ → List ℕ → List ℕ
 bookOutput words book = printed (plannerResult book words mostSheet)
+
+-- every "buffer that suffices", for which 11 is not given, has the result that the longest sheet's has (proofs/DayLaws, `any-suffices`)
+abbrev pub AnySuffices : Type 0
+AnySuffices = (words : ℕ) (book : List ℕ) (room : ℕ) → (answerOf (plannerResult book words room) .number ≡ 11 → ⊥)
+    → plannerResult book words room ≡ plannerResult book words mostSheet
 
 -- "The output is, in order," these
 unfoldable pub dayOutput : ℕ → List (List ℕ) → List ℕ
@@ -72,7 +80,8 @@ dayOutput words books = concat (map (bookOutput words) books)
 unfoldable pub dayRules : ℕ → ℕ → ℕ → List Rule
 dayRules books due room = (ltb mostBooks books ⇒ TooManyBooks) ∷ (ltb room due ⇒ OutputTooLong) ∷ []
 
--- the day of these books, with a work area of so many words and a buffer with room for so many bytes; "Worth and trials are 0 in the day's own answer"
+-- the day of these books, with a work area of so many words and a buffer with room for so many bytes: "either leaves the buffer unwritten" (Answers,
+-- `bufferAfter`); "Worth and trials are 0 in the day's own answer"
 unfoldable pub dayOf : List (List ℕ) → ℕ → ℕ → Result Output
 dayOf books words room =
     checked 0 (first (dayRules (length books) (length (dayOutput words books)) room)) (done (bytesOnly (dayOutput words books)))
@@ -98,8 +107,8 @@ dayFreeWords input words = cond (ltb mostBooks (length (booksOf input))) 0 (most
 
 -- ---- one by one
 
--- a call of the planner for a book, with a work area of `words` words: the buffer before and after it, and its answer, which is not 11: the buffer
--- suffices
+-- a call of the planner for a book, with a work area of `words` words, of which "no answer depends on what they held before": the buffer before and after
+-- it, and its answer, which is not 11: the buffer suffices
 pub record PlanCall (words : ℕ) : Type 0 where
   pub book : List ℕ
   pub before : List ℕ
@@ -123,5 +132,5 @@ OneByOne = (words : ℕ) (calls : List (PlanCall words)) → 1 ≤ length calls 
 -- "so a refused book doesn't touch its neighbours": whatever one book holds, what is put out for those before it and after it is the same (proofs/DayLaws,
 -- `neighbours`)
 abbrev pub Neighbours : Type 0
-Neighbours = (words : ℕ) (above below : List (List ℕ)) (book : List ℕ) → Every Whole (above ++ (book ∷ below))
-    → dayOutput words (booksOf (joined (above ++ (book ∷ below)))) ≡ dayOutput words above ++ bookOutput words book ++ dayOutput words below
+Neighbours = (words : ℕ) (input : List ℕ) (above below : List (List ℕ)) (book : List ℕ) → booksOf input ≡ above ++ (book ∷ below)
+    → dayOutput words (booksOf input) ≡ dayOutput words above ++ bookOutput words book ++ dayOutput words below

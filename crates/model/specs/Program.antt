@@ -21,7 +21,8 @@ abbrev pub printed : Result Output → List ℕ
 printed (refused r number) = refusalLine (numberOf r) number
 printed (done s) = s .bytes
 
--- the same, from what a call answered and the buffer that it left: the bytes that it wrote, or the line of its refusal (proofs/AnswerLaws, `printed-from`)
+-- the same, from what a call answered and the buffer that it left: the bytes that it wrote, or the line of its refusal (proofs/AnswerLaws, `printed-from`);
+-- document 02, M-107: "in the form in which the program prints it"
 abbrev pub printedFrom : Answer → List ℕ → List ℕ
 printedFrom a after = cond (eqb (a .number) 0) (take (a .bytes) after) (refusalLine (a .number) (a .line))
 

@@ -9,7 +9,7 @@ use lib.Seq.{length-take-le, drop-at}
 use Rattle.model.specs.declared.Answer.{Answer}
 use Rattle.model.specs.Frames.{digits}
 use Rattle.model.specs.Refusals.{Result, refused, done}
-use Rattle.model.specs.Answers.{Output, Writes}
+use Rattle.model.specs.Answers.{Output, bufferAfter, Writes}
 use Rattle.model.specs.Sheet.{lf}
 use Rattle.model.specs.Program.{refusalLine, printed, printedFrom}
 use Rattle.model.proofs.FrameLaws.{length-digits}
@@ -43,12 +43,12 @@ own-written l n h = sym (written-start l (take n l) ∙ ap (λ m. take n l ++ dr
 -- over the buffer that a call left, what is printed of it is written as over the buffer that it was lent
 pub printed-over : (x : Result Output) (before after : List ℕ) (a : Answer) → Writes x before after a
     → written after 0 (printedFrom a after) ≡ written before 0 (printed x)
-printed-over (refused r line) before after a w = ap₂ (λ l bytes. written l 0 bytes) (w .leaves) (printed-from (refused r line) w)
-printed-over (done s) before after a w =
-    ap₂ (λ l bytes. written l 0 bytes) (w .leaves) (printed-from (done s) w)
-    ∙ written-start (s .bytes ++ rest) (s .bytes)
-    ∙ ap (λ l. s .bytes ++ l) (drop-at (s .bytes) rest (length (s .bytes)) refl)
-    ∙ sym (written-start before (s .bytes))
+printed-over x before after a w = ap₂ (λ l bytes. written l 0 bytes) (w .leaves) (printed-from x w) ∙ over x
   where
-    rest : List ℕ
-    rest = drop (length (s .bytes)) before
+    over : (x : Result Output) → written (bufferAfter x before) 0 (printed x) ≡ written before 0 (printed x)
+    over (refused r line) = refl
+    over (done s) =
+        let rest = drop (length (s .bytes)) before in
+        written-start (s .bytes ++ rest) (s .bytes)
+        ∙ ap (λ l. s .bytes ++ l) (drop-at (s .bytes) rest (length (s .bytes)) refl)
+        ∙ sym (written-start before (s .bytes))

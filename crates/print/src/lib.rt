@@ -19,7 +19,8 @@ fn write_refusal(out: &mut [u8], number: u64, line: u64)
 
 // Makes of the buffer that a call was lent what is printed of its answer, and answers how many bytes that is.
 pub fn print_answer(answer: Answer, out: &mut [u8]) -> usize
-    requires { ⌜ (9 ≤ length (now out)) × (answer .bytes ≤ length (now out)) ⌝ }
+    requires { ⌜ 9 ≤ length (now out) ⌝ }
+    requires { ⌜ answer .bytes ≤ length (now out) ⌝ }
     ensures bytes { λ _. ⌜ now (out .exit) ≡ written (now (out .entry)) 0 (printedFrom answer (now (out .entry))) ⌝ }
     ensures length { λ r. ⌜ r ≡ length (printedFrom answer (now (out .entry))) ⌝ }
 {

@@ -5,7 +5,7 @@ use lib.ListN.{length, take}
 use lib.Seq.{take-all}
 use Rattle.hex.specs.Written.{written}
 use Rattle.hex.proofs.WrittenLaws.{written-none}
-use Rattle.day.proofs.DayWriteLaws.{copied-more}
+use Rattle.day.proofs.BookLaws.{copied-more}
 use borrow.Author.Needs.{needs}
 use native.Mathlib.Omega.{arith}
 use Rattle.day.proofs.copy.Statement.{statement}

@@ -1,12 +1,13 @@
 -- `day::day` meets its contract: 18, then what all books put out, and with it 19 or the output. Assumes nothing.
 use mathlib.Core.Path.{refl, sym, subst}
-use Prim.Native.Nat.{_≤_}
+use Prim.Native.Nat.{ℕ, _≤_}
+use mathlib.Core.List.{List}
 use lib.ListN.{length}
 use lib.Seq.{length-take-le}
 use Rattle.model.specs.Bounds.{mostBooks}
 use Rattle.model.specs.Trials.{WordsKept}
-use Rattle.model.specs.Day.{booksOf}
-use Rattle.day.proofs.ResultLaws.{written-within, many-writes, long-writes, given-writes, free-is}
+use Rattle.model.specs.Day.{booksOf, dayFreeWords}
+use Rattle.day.proofs.ResultLaws.{written-within, many-writes, long-writes, given-writes, few-free}
 use native.Mathlib.Omega.{arith}
 use borrow.Author.Needs.{needs}
 use Rattle.day.proofs.day.Statement.{statement}
@@ -20,8 +21,10 @@ refusal-requires c κs = search needs
 
 returns : tie.Need-returns
 returns c =
-    let a = c .before .before .before .before .before .before .args in
-    (many-writes (booksOf (a .books .now)) (length (a .work .now)) (a .out .now) _ (omega (arith, c .before .before .book-count .ensures, c .before .if1 .taken)) (c .refusal .ensures), record { same-length = refl; kept = refl })
+    let a = c .before .before .before .before .before .before .args in (
+      many-writes (booksOf (a .books .now)) (length (a .work .now)) (a .out .now) _ (omega (arith, c .before .before .book-count .ensures, c .before .if1 .taken)) (c .refusal .ensures),
+      record { same-length = refl; kept = refl },
+    )
 
 slice-aggregate-write-books : tie.Need-slice-aggregate-write-books
 slice-aggregate-write-books c = search needs
@@ -35,15 +38,25 @@ refusal-requires-2 c κs = search needs
 same-length : tie.Need-same-length
 same-length c = search needs
 
+-- there are few books; and the words that are kept
+module _ (c : tie.After-write-books) where
+  abbrev input : List ℕ
+  input = c .before .before .before .before .before .before .before .before .args .books .now
+
+  abbrev work : List ℕ
+  work = c .before .before .before .before .before .before .before .before .args .work .now
+
+  few : length (booksOf input) ≤ mostBooks
+  few = omega (arith, c .before .before .before .before .book-count .ensures, c .before .before .before .if1 .left)
+
+  words : WordsKept (dayFreeWords input (length work)) work (c .write-books .last .1 .0)
+  words = subst (λ m. WordsKept m work (c .write-books .last .1 .0)) (few-free input (length work) few) (c .write-books .ensures .1 .1)
+
 returns-2 : tie.Need-returns-2
 returns-2 c =
-    let a = c .before .before .before .before .before .before .before .before .before .before .before .before .before .args in
-    let n = c .before .before .before .before .before .before .before .before .before .book-count in
-    let w = c .before .before .before .before .before .write-books in
-    let few : length (booksOf (a .books .now)) ≤ mostBooks = omega (arith, n .ensures, c .before .before .before .before .before .before .before .before .if1 .left) in (
-      long-writes (booksOf (a .books .now)) (length (a .work .now)) (a .out .now) _ (w .result) few (w .ensures .1 .0) (omega arith) (c .refusal2 .ensures),
-      subst (λ m. WordsKept m (a .work .now) (w .last .1 .0)) (free-is (a .books .now) (length (a .work .now)) few) (w .ensures .1 .1),
-    )
+    let b = c .before .before .before .before .before in
+    let out = c .before .before .before .before .before .before .before .before .before .before .before .before .before .args .out .now in
+    (long-writes (booksOf (input b)) (length (work b)) out _ (b .write-books .result) (few b) (b .write-books .ensures .1 .0) (omega arith) (c .refusal2 .ensures), words b)
 
 -- the output lies within the array where it waits
 waits : (c : tie.After-waiting2) → c .before .before .before .write-books .result ≤ length (c .before .before .before .write-books .last .1 .1 .0)
@@ -71,12 +84,12 @@ same-length-3 c = search needs
 
 returns-3 : tie.Need-returns-3
 returns-3 c =
-    let a = c .before .before .before .before .before .before .before .before .before .before .before .before .before .before .before .before .before .before .args in
-    let n = c .before .before .before .before .before .before .before .before .before .before .before .before .before .before .book-count in
-    let w = c .before .before .before .before .before .before .before .before .before .before .write-books in
-    let few : length (booksOf (a .books .now)) ≤ mostBooks = omega (arith, n .ensures, c .before .before .before .before .before .before .before .before .before .before .before .before .before .if1 .left) in (
-      given-writes (booksOf (a .books .now)) (length (a .work .now)) (a .out .now) _ (w .result) _ _ _ few (w .ensures .1 .0) (omega arith) (w .ensures .0) (c .before .before .before .copy .ensures) (c .success .ensures),
-      subst (λ m. WordsKept m (a .work .now) (w .last .1 .0)) (free-is (a .books .now) (length (a .work .now)) few) (w .ensures .1 .1),
+    let b = c .before .before .before .before .before .before .before .before .before .before in
+    let w = b .write-books in
+    let out = c .before .before .before .before .before .before .before .before .before .before .before .before .before .before .before .before .before .before .args .out .now in (
+      given-writes (booksOf (input b)) (length (work b)) out _ (w .result) _ _ _ (few b) (w .ensures .1 .0) (omega arith) (w .ensures .0)
+          (c .before .before .before .copy .ensures) (c .success .ensures),
+      words b,
     )
 
 pub day-spec : {M : Type 1} → statement M

@@ -4,7 +4,7 @@ use lib.ListN.{length}
 use Rattle.model.specs.Trials.{WordsKept}
 use Rattle.model.proofs.AnswerLaws.{bytes-few, printed-from}
 use Rattle.print.proofs.PrintLaws.{printed-over}
-use Rattle.day.proofs.DayWriteLaws.{same-output, same-free}
+use Rattle.day.proofs.BookLaws.{same-output, same-free}
 use Rattle.hex.specs.Written.{written}
 use borrow.Author.Needs.{needs}
 use Rattle.day.proofs.write_book.Statement.{statement}

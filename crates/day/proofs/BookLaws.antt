@@ -1,4 +1,4 @@
--- What is written for a day: bytes copied, what a book puts out, and the books one after the other.
+-- Bytes copied; and a book alone, in a buffer that is longer than every sheet: what it puts out, and the words that it may change.
 -- Assumes nothing.
 use mathlib.Core.Path.{_≡_, sym, ap, _∙_}
 use mathlib.Core.List.{List, [], _∷_}
