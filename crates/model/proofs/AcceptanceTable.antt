@@ -401,8 +401,10 @@ times n bytes = concat (replicate n bytes)
 -- of a day's books (M-107)
 unfoldable pub dayRows : List Row
 dayRows =
+    -- the words that a day may change: here those that the second book needs
+    frees (lf ++ twinBook) 6144 32
     -- an empty input is one empty book; two LFs at the start are two, each ended by an empty line
-    days [] 6144 9 (0 ∷ 0 ∷ 9 ∷ 0 ∷ 0 ∷ []) emptyOutput
+    ∷ days [] 6144 9 (0 ∷ 0 ∷ 9 ∷ 0 ∷ 0 ∷ []) emptyOutput
     ∷ days (lf ++ lf ++ twinBook) 6144 62 (0 ∷ 0 ∷ 62 ∷ 0 ∷ 0 ∷ []) (emptyOutput ++ emptyOutput ++ twinPlan)
     -- 32 and 33 books, and 33 books and a buffer of 0 bytes: 18 comes before 19
     ∷ days (times 31 lf) 0 288 (0 ∷ 0 ∷ 288 ∷ 0 ∷ 0 ∷ []) (times 32 emptyOutput)
@@ -420,7 +422,7 @@ dayRows =
     -- each book has the whole work area: the second needs more of it than the first; with a word less it is refused by 10, and the first is not
     ∷ days (twinBook ++ lf ++ bytesOf example) 1056 92 (0 ∷ 0 ∷ 92 ∷ 0 ∷ 0 ∷ []) (twinPlan ++ exampleSheet)
     ∷ days (twinBook ++ lf ++ bytesOf example) 1055 53 (0 ∷ 0 ∷ 53 ∷ 0 ∷ 0 ∷ []) (twinPlan ++ bytesOf "FF0A0000\n")
-    -- the words that a day may change: the most that a book past 11 needs, wherever it stands; none after 18
+    -- and the most that a book past 11 needs, wherever it stands; none after 18
     ∷ frees (twinBook ++ lf ++ bytesOf example) 6144 1056
     ∷ frees (bytesOf example ++ lf ++ twinBook) 6144 1056
     ∷ frees (twinBook ++ lf ++ bytesOf example) 1055 32
