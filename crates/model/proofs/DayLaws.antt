@@ -25,7 +25,7 @@ use Rattle.model.specs.Sheet.{lf, sheetBytes, sheetOf, sheetLength}
 use Rattle.model.specs.Calls.{sizeRules, fitting, fittingBook, planned, planSheet, plannerResult}
 use Rattle.model.specs.Demand.{Past12}
 use Rattle.model.specs.Program.{printed}
-use Rattle.model.specs.Day.{booksFrom, booksOf, emptyLinesFrom, emptyLines, joined, Whole, SplitJoined, JoinedSplit, bookOutput, AnySuffices, dayOutput, dayRules, dayOf, AlwaysFits, PlanCall, printedOf, OneByOne, Neighbours}
+use Rattle.model.specs.Day.{booksFrom, booksOf, emptyLinesFrom, joined, Whole, SplitJoined, JoinedSplit, bookOutput, AnySuffices, dayOutput, dayRules, dayOf, AlwaysFits, PlanCall, printedOf, OneByOne, Neighbours}
 use Rattle.model.proofs.ListLaws.{both-true, every-map, concat-join}
 use Rattle.model.proofs.RefusalLaws.{first-none, refused-done, done-same}
 use Rattle.model.proofs.AnswerLaws.{writes-same, printed-from, length-refusal}
@@ -50,52 +50,50 @@ books-counted book starts (b ∷ bs) = go (starts && eqb b 10) refl (books-count
         omega (arith, e, l)
     go false q e f = omega (arith, f)
 
--- with no empty line left, all of it is the last book
-last-book : (book : List ℕ) (starts : Bool) (bytes : List ℕ) → emptyLinesFrom starts bytes ≡ 0 → booksFrom book starts bytes ≡ (book ++ bytes) ∷ []
-unfolding booksFrom emptyLinesFrom
-last-book book starts [] e = ap (λ x. x ∷ []) (sym (append-nil book))
-last-book book starts (b ∷ bs) e = go (starts && eqb b 10) e (last-book (book ++ (b ∷ [])) (eqb b 10) bs)
+-- whether a line starts after these bytes
+startsAfter : Bool → List ℕ → Bool
+startsAfter starts [] = starts
+startsAfter starts (b ∷ bs) = startsAfter (eqb b 10) bs
+
+starts-after-lf : (starts : Bool) (lines : List ℕ) → startsAfter starts (lines ++ lf) ≡ true
+unfolding startsAfter
+starts-after-lf starts [] = refl
+starts-after-lf starts (b ∷ bs) = starts-after-lf (eqb b 10) bs
+
+-- up to an empty line, all bytes go to the book
+to-book : (book : List ℕ) (starts : Bool) (bytes rest : List ℕ) → emptyLinesFrom starts bytes ≡ 0
+    → booksFrom book starts (bytes ++ rest) ≡ booksFrom (book ++ bytes) (startsAfter starts bytes) rest
+unfolding booksFrom emptyLinesFrom startsAfter
+to-book book starts [] rest e = ap (λ x. booksFrom x starts rest) (sym (append-nil book))
+to-book book starts (b ∷ bs) rest e = go (starts && eqb b 10) e (to-book (book ++ (b ∷ [])) (eqb b 10) bs rest)
   where
     go : (t : Bool) → cond t 1 0 + emptyLinesFrom (eqb b 10) bs ≡ 0
-        → (emptyLinesFrom (eqb b 10) bs ≡ 0 → booksFrom (book ++ (b ∷ [])) (eqb b 10) bs ≡ ((book ++ (b ∷ [])) ++ bs) ∷ [])
-        → cond t (book ∷ booksFrom [] true bs) (booksFrom (book ++ (b ∷ [])) (eqb b 10) bs) ≡ (book ++ (b ∷ bs)) ∷ []
-    go true e rest = absurd (omega (arith, e))
-    go false e rest = rest (omega (arith, e)) ∙ ap (λ x. x ∷ []) (append-assoc book (b ∷ []) bs)
-
--- a book that ends in LF and holds no empty line ends at the empty line after it
-next-book : (book : List ℕ) (starts : Bool) (lines bytes : List ℕ) → emptyLinesFrom starts (lines ++ lf) ≡ 0
-    → booksFrom book starts (lines ++ (10 ∷ 10 ∷ bytes)) ≡ (book ++ (lines ++ lf)) ∷ booksFrom [] true bytes
-unfolding booksFrom emptyLinesFrom
-next-book book true [] bytes e = absurd (omega (arith, e))
-next-book book false [] bytes e = refl
-next-book book starts (b ∷ bs) bytes e = go (starts && eqb b 10) e (next-book (book ++ (b ∷ [])) (eqb b 10) bs bytes)
-  where
-    go : (t : Bool) → cond t 1 0 + emptyLinesFrom (eqb b 10) (bs ++ lf) ≡ 0
-        → (emptyLinesFrom (eqb b 10) (bs ++ lf) ≡ 0
-        → booksFrom (book ++ (b ∷ [])) (eqb b 10) (bs ++ (10 ∷ 10 ∷ bytes)) ≡ ((book ++ (b ∷ [])) ++ (bs ++ lf)) ∷ booksFrom [] true bytes)
-        → cond t (book ∷ booksFrom [] true (bs ++ (10 ∷ 10 ∷ bytes))) (booksFrom (book ++ (b ∷ [])) (eqb b 10) (bs ++ (10 ∷ 10 ∷ bytes)))
-        ≡ (book ++ (b ∷ (bs ++ lf))) ∷ booksFrom [] true bytes
-    go true e rest = absurd (omega (arith, e))
-    go false e rest = rest (omega (arith, e)) ∙ ap (λ x. x ∷ booksFrom [] true bytes) (append-assoc book (b ∷ []) (bs ++ lf))
+        → (emptyLinesFrom (eqb b 10) bs ≡ 0
+        → booksFrom (book ++ (b ∷ [])) (eqb b 10) (bs ++ rest) ≡ booksFrom ((book ++ (b ∷ [])) ++ bs) (startsAfter (eqb b 10) bs) rest)
+        → cond t (book ∷ booksFrom [] true (bs ++ rest)) (booksFrom (book ++ (b ∷ [])) (eqb b 10) (bs ++ rest))
+        ≡ booksFrom (book ++ (b ∷ bs)) (startsAfter (eqb b 10) bs) rest
+    go true e more = absurd (omega (arith, e))
+    go false e more = more (omega (arith, e)) ∙ ap (λ x. booksFrom x (startsAfter (eqb b 10) bs) rest) (append-assoc book (b ∷ []) bs)
 
 -- SPLITTING WHAT WAS JOINED gives the books
 pub split-joined : SplitJoined
+unfolding booksFrom
 split-joined [] h w = absurd (omega arith)
-split-joined (book ∷ []) h w = last-book [] true book (w .0 .no-empty-line)
+split-joined (book ∷ []) h w = ap booksOf (sym (append-nil book)) ∙ to-book [] true book [] (w .0 .no-empty-line)
 split-joined (book ∷ next ∷ books) h w =
-    let lines = w .0 .lines in
-    let e : book ++ lf ++ joined (next ∷ books) ≡ lines ++ (10 ∷ 10 ∷ joined (next ∷ books))
-    = ap (λ x. x ++ lf ++ joined (next ∷ books)) (w .0 .ends)
-    ∙ append-assoc (lines ++ lf) lf (joined (next ∷ books))
-    ∙ append-assoc lines lf (lf ++ joined (next ∷ books)) in
-    ap booksOf e
-    ∙ next-book [] true lines (joined (next ∷ books)) (ap emptyLines (sym (w .0 .ends)) ∙ w .0 .no-empty-line)
-    ∙ ap₂ {C = List (List ℕ)} (λ x xs. x ∷ xs) (sym (w .0 .ends)) (split-joined (next ∷ books) (omega arith) (w .1))
+    let rest = joined (next ∷ books) in
+    let t : startsAfter true book ≡ true = ap (startsAfter true) (w .0 .ends) ∙ starts-after-lf true (w .0 .lines) in
+    ap booksOf (append-assoc book lf rest)
+    ∙ to-book [] true book (10 ∷ rest) (w .0 .no-empty-line)
+    ∙ ap (λ s. booksFrom book s (10 ∷ rest)) t
+    ∙ ap {B = List (List ℕ)} (λ xs. book ∷ xs) (split-joined (next ∷ books) (omega arith) (w .1))
 
+-- a book joined to others
 joined-more : (book : List ℕ) (books : List (List ℕ)) → 1 ≤ length books → joined (book ∷ books) ≡ book ++ lf ++ joined books
 joined-more book [] h = absurd (omega arith)
 joined-more book (x ∷ more) h = refl
 
+-- joining gives back what was read of the first book, and the bytes
 joined-from : (book : List ℕ) (starts : Bool) (bytes : List ℕ) → joined (booksFrom book starts bytes) ≡ book ++ bytes
 unfolding booksFrom
 joined-from book starts [] = sym (append-nil book)
@@ -133,6 +131,7 @@ module _ (words : ℕ) where
       go false false true n = absurd (n refl)
       go false false false n = ap (λ v. checked 0 (sizes false false v) (done b)) (sym (le-ltb mostSheet (sheetLength b) h))
 
+  -- where the sizes of a book that was read are refused alike, so are those of the bytes
   at-book : (book : List ℕ) (room : ℕ) → ((b : Problem) → readBook book ≡ done b → fitting words room b ≡ fitting words mostSheet b)
       → fittingBook book words room ≡ fittingBook book words mostSheet
   unfolding fittingBook
@@ -178,6 +177,7 @@ output-few words book = go (plannerResult book words mostSheet) refl
         let p = past-only book words mostSheet (inl (ap (λ r. answerOf r .number) e)) in
         at-plan (p .0) (p .1) (plan (p .0)) refl x (sym (past-result book words mostSheet (p .0) (p .1)) ∙ e)
 
+-- nor do books put out more than as many longest sheets
 pub outputs-few : (words : ℕ) (books : List (List ℕ)) → length (dayOutput words books) ≤ length books * mostSheet
 unfolding dayOutput
 outputs-few words [] = omega arith
@@ -187,6 +187,7 @@ outputs-few words (book ∷ books) =
 -- ---- one by one
 
 module _ (words : ℕ) where
+  -- what is printed of a call is what the book puts out in a day
   printed-alone : (x : PlanCall words) → printedOf x ≡ bookOutput words (x .book)
   printed-alone x =
       printed-from (plannerResult (x .book) words (length (x .before))) (x .writes)
