@@ -48,8 +48,8 @@
  *     No answer depends on them.
  *
  * The calls cannot test these points. Where one is broken, nothing is promised.
- * Of the values in book, sheet, prices and names, nothing is asked: every input
- * has an answer.
+ * Of the values in book, books, sheet, prices and names, nothing is asked: every
+ * input has an answer.
  *
  * WHAT A CALL LEAVES BEHIND
  *   - With a sheet (number 0): the first `bytes` bytes of the sheet buffer are the
@@ -71,7 +71,7 @@
  *
  * STACK, HEAP  Nothing is allocated. Stack used by a call, as measured on x86-64
  * Linux: planner up to 77 KiB, day up to 82 KiB, as its output waits there until it is
- * known to fit, quick planner up to 56 KiB, sheet reader, charge, order and views up
+ * known to fit, quick planner up to 57 KiB, sheet reader, charge, order and views up
  * to 35 KiB. Leave 128 KiB of stack for a call.
  *
  * ERRORS  A call always returns. It prints nothing, and sets no errno.
@@ -319,17 +319,18 @@ jadeshuttle_answer jadeshuttle_supply_view(const uint8_t *book, size_t book_len,
  * lines and 19 + 2N + 23T bytes; its worth and its trials stand on its first line.
  *
  * The work area serves one book after the other: it has to be as large as the largest
- * of them needs. A book that needs more is refused (10), and the others are not.
+ * of them needs. A book that needs more is refused (10), and the others are planned
+ * all the same.
  *
- * Gives 18, before any book is planned, and then 19, which shows only when all of them
- * are. JADESHUTTLE_DAY_MAX bytes always suffice.
+ * Gives 18, before any book is planned, or 19, after all of them are.
+ * JADESHUTTLE_DAY_MAX bytes always suffice.
  *
- * Of every list of books that each end in LF and hold no empty line, joined by an LF
- * between each and the next:
- *   - for 1 to 32 books whose outputs fit, answer and written bytes are the answers of
- *     jadeshuttle_plan to the books, one by one, in that form and joined;
+ * Of every list of 1 to 32 books that each end in LF and hold no empty line, joined by
+ * an LF between each and the next, and whose outputs fit:
+ *   - the number is 0, and the written bytes are the answers of jadeshuttle_plan to the
+ *     books, one by one, in that form and joined;
  *   - a refused book does not touch its neighbours: whatever one book holds, what is
- *     put out for those before it and after it is the same.
+ *     written for those before it and after it is the same.
  */
 jadeshuttle_answer jadeshuttle_day(const uint8_t *books, size_t books_len,
                                    uint64_t *work, size_t work_len,

@@ -360,7 +360,7 @@ const EVERY: &[Function] = &[
 
 const PLANNERS: &[Function] = EVERY.split_at(2).0;
 const READERS: &[Function] = EVERY.split_at(2).1.split_at(5).0;
-const DAY: &[Function] = EVERY.split_at(7).1;
+const DAY: &[Function] = &[Function::Day];
 const PLAN: &[Function] = &[Function::Plan];
 const QUICK: &[Function] = &[Function::Quick];
 

@@ -20,7 +20,7 @@ const TINY: Bounds = Bounds {
 const REFUSALS: [usize; 11] = [1, 2, 3, 4, 5, 6, 7, 8, 9, 12, 17];
 
 /// A way to draw a book's bytes.
-pub type Draw = fn(&mut Random) -> Vec<u8>;
+type Draw = fn(&mut Random) -> Vec<u8>;
 
 pub fn right(random: &mut Random) -> Vec<u8> {
     text(&book(random, TINY))
@@ -70,7 +70,7 @@ fn none_admitted(random: &mut Random) -> Book {
 }
 
 /// A book of about 4,096 bytes or more, one line of which has digits too many, and now and then a byte at its end that is none.
-pub fn long(random: &mut Random) -> Vec<u8> {
+fn long(random: &mut Random) -> Vec<u8> {
     let mut text = right(random);
     let length = random.pick(&[4_095, 4_096, 4_097, 5_000, 9_000]);
     let mut digits = vec![b'0'; length - text.len()];

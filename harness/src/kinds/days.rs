@@ -58,12 +58,20 @@ fn with_any_buffer(session: &mut Session, case: &Case) {
     }
 }
 
-/// About 32 books, and many more: 18 comes before 19, so also where no byte is lent.
+/// About 32 books, and many more: 18 comes before 19, so also where the output would not fit and where no byte is lent.
 pub fn numbers_of_books(session: &mut Session) {
     let more = 34 + session.random.below(70);
-    for count in [31, 32, 33, more] {
+    for count in [31, 32] {
         let case = Case::new(days::of_many(&mut session.random, count));
         with_any_buffer(session, &case);
+    }
+    for count in [33, more] {
+        let case = Case::new(days::of_many(&mut session.random, count));
+        // A refused book has a line of 9 bytes, and a sheet is longer.
+        let short = session.random.below(9 * count);
+        for buffer in [0, short, DAY_MAX] {
+            session.day(&case, words_of(&case), buffer);
+        }
     }
 }
 

@@ -9,6 +9,9 @@ pub const MOST_BOOKS: usize = 32;
 /// A book that needs fewer words than document 01's: its cells are 2 × 4.
 pub const SMALLER: &[u8] = b"0101010100000002000A\n0201000100090001\n";
 
+/// The sheet of its plan.
+pub const SMALLER_SHEET: &[u8] = b"04000000010000000201\n050000000900000001000A\n";
+
 /// The books of an input: "parted by an empty line (LF alone)".
 pub fn books(input: &[u8]) -> Vec<Vec<u8>> {
     parted(input, |line| line == b"\n")
@@ -36,7 +39,12 @@ pub fn printed(plan: &Outcome) -> Vec<u8> {
 
 /// What the call has to leave for these books.
 pub fn of(books: &[&Case], words: usize, buffer: usize) -> Outcome {
-    let few_enough = refuse_if(books.len() > MOST_BOOKS, 18);
+    of_most(MOST_BOOKS, books, words, buffer)
+}
+
+/// The same, where so many books are the most.
+pub fn of_most(most: usize, books: &[&Case], words: usize, buffer: usize) -> Outcome {
+    let few_enough = refuse_if(books.len() > most, 18);
     few_enough.map_or_else(refused::<0>, |()| output(&one_by_one(books, words), buffer))
 }
 
@@ -69,7 +77,6 @@ mod tests {
     const SHEET: &[u8] = b"040000000A0000000E010100\n050000000900000001000A\n";
 
     const SMALLER_NEED: usize = 4 * 2 * 4;
-    const SMALLER_SHEET: &[u8] = b"04000000010000000201\n050000000900000001000A\n";
 
     /// What is put out for these bytes where words and bytes suffice.
     fn put_out(input: &[u8]) -> Vec<u8> {

@@ -5,13 +5,12 @@ use crate::call::{Call, Input};
 use crate::draw::days;
 use crate::kinds::days::words_of;
 use crate::random::Random;
-use crate::reference::day::{self, MOST_BOOKS, SMALLER};
+use crate::reference::day::{self, MOST_BOOKS, SMALLER, SMALLER_SHEET};
 use crate::reference::{Case, Outcome, EXAMPLE};
-use crate::{Answer, Numbers};
+use crate::Answer;
 
-/// What the planner writes for the bench book with a load that must run, and for the smaller book.
+/// What the planner writes for the bench book with a load that must run.
 const MUST_RUN_SHEET: &[u8] = b"04000000090000000A000101\n0500000008FFFFFFFC000A\n";
-const SMALLER_SHEET: &[u8] = b"04000000010000000201\n050000000900000001000A\n";
 
 /// The bytes that are lent for an output that fits, and for that of a book more than a call takes.
 const ROOM: usize = 120;
@@ -295,22 +294,7 @@ pub const ANSWER_MISTAKES: &[Mistake] = &[
 
 /// What a day has to leave where so many books are the most.
 fn of_most(case: &Case, input: Input, most: usize) -> Outcome {
-    let books = case.books();
-    if books.len() > most {
-        let first = Answer {
-            number: 18,
-            ..Answer::default()
-        };
-        let answer = Numbers {
-            first,
-            ..Numbers::default()
-        };
-        return Outcome {
-            answer,
-            ..Outcome::default()
-        };
-    }
-    day::output(&day::one_by_one(&books, input.words.len()), input.sheet.len())
+    day::of_most(most, &case.books(), input.words.len(), input.sheet.len())
 }
 
 /// What a day has to leave where its books are changed.
