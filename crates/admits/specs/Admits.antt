@@ -2,31 +2,24 @@
 use Prim.Native.Nat.{ℕ, _+_, _*_, _<_, _≤_}
 use mathlib.Core.Path.{_≡_}
 use mathlib.Core.List.{List}
-use lib.ListN.{length}
-use Rattle.model.specs.Lists.{Every}
-use Rattle.model.specs.Grid.{Slot}
-use Rattle.model.specs.Valid.{SlotsFor}
-use Rattle.model.specs.Bounds.{mostSlots, mostLoads}
-use Rattle.slots.specs.Slots.{SlotsIn}
+use lib.ListN.{length, getD}
+use Rattle.model.specs.Bounds.{mostLoads}
+use Rattle.grid.specs.declared.Grid.{Grid}
+use Rattle.grid.specs.Geometry.{noSlot, Laid}
 
--- the numbers of one slot's test are small
-pub record PairFits (a raised step top count limit : ℕ) : Type 0 where
+-- the numbers of one slot's test are small; the bound of the reactive ones is 3 × 3 × 25 × 65,535, as b and its depth are at most 3r × (R + N), and r is at
+-- most 3, N at most 24, and R × L and L at most 65,535
+pub record PairFits (a raised depth step count limit : ℕ) : Type 0 where
   pub active : a * step ≤ 65535
-  pub reactive : (raised + (top + count)) * step ≤ 3342285
+  pub reactive : (raised + depth) * step ≤ 14745375
   pub some-step : 0 < step
   pub step-fits : step ≤ 65535
   pub count-fits : count ≤ mostLoads
   pub limit-fits : limit ≤ 65535
 
-abbrev pub SlotSmall : Slot → Type 0
-SlotSmall s = (s .step ≤ 65535) × (s .limit ≤ 65535)
-
--- the slots of the definitions of which the numbers of the code speak, for `count` loads, at ratio 1
-pub record SlotsHeld (slots count : ℕ) (steps tops widths limits : List ℕ) : Type 0 where
-  pub ss : List Slot
-  pub ss-are : SlotsIn 0 steps tops widths limits 0 ss
-  pub many : length ss ≡ slots
-  pub few : slots ≤ mostSlots
-  pub for : SlotsFor count ss
-  pub small : Every SlotSmall ss
+-- the slots of a grid, for `count` loads, with these limits
+pub record SlotsHeld (grid : Grid) (count : ℕ) (limits : List ℕ) : Type 0 where
+  pub laid : Laid grid
+  pub loads-are : (t : ℕ) → t < length (laid .slots) → getD (laid .slots) t noSlot .loads ≡ count
+  pub limits-are : (t : ℕ) → t < length (laid .slots) → getD limits t 0 ≡ getD (laid .slots) t noSlot .limit
   pub count-fits : count ≤ mostLoads

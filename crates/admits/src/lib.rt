@@ -1,4 +1,5 @@
 // Whether the slots admit a cell of the table.
+use grid::Grid;
 use model::Book;
 ghost use mathlib.Core.Path.{_≡_};
 ghost use Prim.Native.Nat.{_+_, _-_, _*_, _≤_};
@@ -12,8 +13,8 @@ ghost use Rattle.admits.specs.Admits.{PairFits, SlotsHeld};
 
 // The least |q| of bL ≤ q ≤ bL + e, where `raised` is b + zero, `step` is L and `spread` is e.
 fn nearest(raised: u64, zero: u64, step: u64, spread: u64) -> u64
-    requires { ⌜ (raised + zero) * step ≤ 3342285 ⌝ }
-    ensures { λ r. ⌜ (r ≡ leastAbs step spread (subℕ raised zero)) × (r ≤ 3342285) ⌝ }
+    requires { ⌜ (raised + zero) * step ≤ 14745375 ⌝ }
+    ensures { λ r. ⌜ (r ≡ leastAbs step spread (subℕ raised zero)) × (r ≤ 14745375) ⌝ }
 {
     if zero <= raised {
         return (raised - zero) * step;
@@ -25,13 +26,13 @@ fn nearest(raised: u64, zero: u64, step: u64, spread: u64) -> u64
     size - spread
 }
 
-// Whether a slot is admitted at the grid pair (a, b), where `raised` is b + R + N, `top` is R and `count` is N.
-fn admits_pair(a: u64, raised: u64, step: u64, top: u64, count: u64, limit: u64) -> bool
-    requires { ⌜ PairFits a raised step top count limit ⌝ }
-    ensures { λ r. ⌜ r ≡ leb (square (a * step) + square (leastAbs step (count * (step - 1)) (subℕ raised (top + count)))) (square limit) ⌝ }
+// Whether a slot is admitted at the grid pair (a, b), where `raised` is b + `depth`, and `count` is N.
+fn admits_pair(a: u64, raised: u64, depth: u64, step: u64, count: u64, limit: u64) -> bool
+    requires { ⌜ PairFits a raised depth step count limit ⌝ }
+    ensures { λ r. ⌜ r ≡ leb (square (a * step) + square (leastAbs step (count * (step - 1)) (subℕ raised depth))) (square limit) ⌝ }
 {
     let p = a * step;
-    let q = nearest(raised, top + count, step, count * (step - 1));
+    let q = nearest(raised, depth, step, count * (step - 1));
     p * p + q * q <= limit * limit
 }
 
@@ -39,29 +40,30 @@ fn admits_pair(a: u64, raised: u64, step: u64, top: u64, count: u64, limit: u64)
 pub fn admits_cell(
     row: usize,
     col: usize,
-    slots: usize,
+    grid: Grid,
     count: u64,
-    steps: [u64; Book::SLOTS],
-    tops: [usize; Book::SLOTS],
-    widths: [usize; Book::SLOTS],
     limits: [u64; Book::SLOTS],
 ) -> bool
-    requires { ⌜ SlotsHeld slots count steps tops widths limits ⌝ }
-    ensures { λ r. ⌜ ((h : SlotsHeld slots count steps tops widths limits) → r ≡ admitsAll (h .ss) (gridFrom 1 (h .ss) row col)) ⌝ }
+    requires { ⌜ SlotsHeld grid count limits ⌝ }
+    ensures { λ r. ⌜ ((h : SlotsHeld grid count limits) → r ≡ admitsAll (h .laid .slots) (gridFrom (h .laid .slots) row col)) ⌝ }
 {
+    let slots = grid.slots;
     let mut a = row;
     let mut b = col;
     let mut t: usize = 0;
     while t < slots {
-        let top = tops[t];
-        let width = widths[t];
+        let top = grid.tops[t];
+        let width = grid.widths[t];
+        let depth = grid.depths[t] as u64;
+        let step = grid.steps[t];
+        let limit = limits[t];
         if !admits_pair(
             (a % top) as u64,
             (b % width) as u64,
-            steps[t],
-            (top - 1) as u64,
+            depth,
+            step,
             count,
-            limits[t],
+            limit,
         ) {
             return false;
         }

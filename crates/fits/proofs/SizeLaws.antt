@@ -18,7 +18,7 @@ use Rattle.model.specs.Calls.{sizeRules}
 use Rattle.model.specs.Bounds.{mostCells}
 use Rattle.model.proofs.IntegerLaws.{split}
 use Rattle.model.proofs.RefusalLaws.{first-passed, first-here, first-next, first-last}
-use Rattle.slots.specs.Slots.{Capped}
+use Rattle.grid.specs.Geometry.{Capped}
 
 module _ (words room : ℕ) (b : Problem) where
   pub size-many : mostCells < cells b → first (sizeRules b words room) ≡ Refused TooManyCells
@@ -59,9 +59,9 @@ module _ (words room : ℕ) (b : Problem) where
     fits-room = ltb-false _ _ (first-passed (sizeRules b words room) e .1 .1 .0)
 
     -- the cells that were counted are the book's
-    pub fits-exact : (total : ℕ) → Capped (cells b) total → (total ≡ cells b) × (total ≤ mostCells)
-    fits-exact total h = go (split mostCells total)
+    pub fits-few : (total : ℕ) → Capped (cells b) total → total ≤ mostCells
+    fits-few total h = go (split mostCells total)
       where
-        go : (mostCells < total) ⊎ (total ≤ mostCells) → (total ≡ cells b) × (total ≤ mostCells)
+        go : (mostCells < total) ⊎ (total ≤ mostCells) → total ≤ mostCells
         go (inl k) = absurd (omega (arith, fits-cells, h .over k))
-        go (inr k) = (h .exact k, k)
+        go (inr k) = k

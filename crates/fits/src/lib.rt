@@ -7,7 +7,7 @@ ghost use Rattle.model.specs.Refusals.{first};
 ghost use Rattle.model.specs.Trials.{cells};
 ghost use Rattle.model.specs.Calls.{sizeRules};
 ghost use Rattle.model.specs.Values.{Held, problemOf};
-ghost use Rattle.slots.specs.Slots.{Capped};
+ghost use Rattle.grid.specs.Geometry.{Capped};
 
 // Refusals 9 to 11, in this order, of a book with so many cells, for a work area of so many words and a buffer with room for so many bytes.
 pub fn size_finding(book: Book, total: usize, words: usize, room: usize) -> Finding

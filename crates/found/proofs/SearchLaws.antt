@@ -1,6 +1,6 @@
--- What the search and the scan of a book's layout find.
+-- What the search asks of a book, and what the search and the scan find.
 -- Assumes nothing.
-use mathlib.Core.Path.{_≡_, refl, sym, ap, ap₂, subst, _∙_}
+use mathlib.Core.Path.{_≡_, refl, sym, ap, subst, _∙_}
 use mathlib.Core.Logic.{⊎-elim}
 use mathlib.Core.Bool.{Bool, true, false, not, false≢true}
 use mathlib.Core.List.{List, [], _∷_}
@@ -8,36 +8,34 @@ use mathlib.Core.Option.{Option, none, some, Option·none-ne-some, Option·some-
 use Prim.Native.Nat.{ℕ, zero, suc, _+_, _*_, _<_, _≤_}
 use native.Mathlib.Omega.{arith}
 use lib.Dec.{eqb}
-use lib.ListN.{length, drop}
+use lib.ListN.{length, getD, drop}
 use borrow.Author.Tests.{eq-eqb, eqb-true, not-true, not-false}
 use Rattle.model.specs.declared.Book.{Book}
 use Rattle.model.specs.Lists.{Every}
-use Rattle.model.specs.Book.{Settings, Problem}
+use Rattle.model.specs.Book.{Settings}
 use Rattle.model.specs.Choice.{Choice, codeOf}
-use Rattle.model.specs.Grid.{Slot, slotsOf, bestAdmitted, plan}
-use Rattle.model.specs.Trials.{neededWords, WordsKept, trials, trialsUpto}
+use Rattle.model.specs.Grid.{Slot, slotsOf, plan}
+use Rattle.model.specs.Trials.{cells, neededWords, WordsKept, trials, trialsUpto}
+use Rattle.model.specs.Valid.{Labelled, SettingSmall, SettingBelow, SlotsFor}
 use Rattle.model.specs.Values.{Held, problemOf}
 use Rattle.model.specs.Cells.{Key, choiceKey}
+use Rattle.model.proofs.ListLaws.{every-mem, every-of-mem}
+use Rattle.model.proofs.NumberLaws.{number-small}
+use Rattle.model.proofs.AdmissionLaws.{slots-for}
 use Rattle.model.proofs.RecurrenceLaws.{key?}
-use Rattle.model.proofs.HeldLaws.{held-valid, held-count}
+use Rattle.model.proofs.HeldLaws.{held-valid, held-count, held-few, held-slots}
 use Rattle.table.specs.declared.Cell.{Cell}
 use Rattle.table.specs.Table.{keyOf, keyIf}
-use Rattle.stretch.specs.declared.Grid.{Grid}
-use Rattle.search.specs.Search.{TopsAre, Modelled, Places, Searched, trialsOf}
-use Rattle.slots.specs.Slots.{SlotsIn}
-use Rattle.layout.specs.declared.Layout.{Layout}
-use Rattle.layout.specs.Layout.{LayoutIs}
-use Rattle.admits.specs.Admits.{SlotSmall, SlotsHeld}
+use Rattle.grid.specs.declared.Grid.{Grid}
+use Rattle.grid.specs.Geometry.{GridIs}
+use Rattle.grid.proofs.SlotLaws.{slots-length, slot-at, laid}
+use Rattle.stretch.specs.declared.LoadMoves.{LoadMoves}
+use Rattle.moves.specs.Moves.{movesOf, LoadIs}
+use Rattle.search.specs.Search.{Modelled, Places, Searched, trialsOf}
+use Rattle.admits.specs.Admits.{SlotsHeld}
 use Rattle.scan.specs.Scan.{bestOfLayer}
-use Rattle.scan.proofs.ScanLaws.{slots-held, scan-finds, slots-small}
+use Rattle.scan.proofs.ScanLaws.{scan-finds}
 use Rattle.found.specs.Found.{Found}
-
--- the tops of the grid for those of the slots
-tops-for : (r : ℕ) (steps tops tops′ widths limits : List ℕ) (t : ℕ) (ss : List Slot) → SlotsIn r steps tops widths limits t ss → TopsAre tops′ t ss
-    → SlotsIn r steps tops′ widths limits t ss
-tops-for r steps tops tops′ widths limits t [] h k = tt
-tops-for r steps tops tops′ widths limits t (s ∷ ss) h k =
-    ((h .0 .0, k .0, h .0 .2, h .0 .3), tops-for r steps tops tops′ widths limits (t + 1) ss (h .1) (k .1))
 
 -- the last layer lies in the work area
 pub layer-room : {ws ws′ lows highs : List ℕ} {grid : Grid} {cur : ℕ} → Places ws ws′ lows highs grid cur → 4 * grid .cells ≤ length ws
@@ -64,37 +62,72 @@ cell-some r m = go (r .worth) m
     go (suc w) none e n = absurd (Option·some-ne-none _ e)
     go (suc w) (some c) e n = (c, refl, ap (λ (x : Key). x .code) (Option·some-injective _ _ e))
 
--- the layout of a book, for its number of loads
-pub record Laidout (b : Problem) (lay : Layout) (n : ℕ) : Type 0 where
-  pub modelled : Modelled (lay .grid) (lay .origin) n (lay .moves)
-  pub ratio : modelled .r ≡ 0
-  pub slots-are : modelled .slots ≡ slotsOf b
-  pub loads-are : modelled .loads ≡ b .loads
-  pub count-is : n ≡ length (b .loads)
+module _ (v : Book) (held : Held v) (grid : Grid) (is : GridIs (slotsOf (problemOf v)) grid) where
+  -- what the scan asks of the slots
+  unfoldable pub scanned : SlotsHeld grid (v .count) (v .limits)
+  unfolding laid
+  scanned =
+      record {
+        laid = laid v held grid is;
+        loads-are = λ t l. ap (λ (s : Slot). s .loads) (slot-at v held t (omega (arith, slots-length v held)));
+        limits-are = λ t l. sym (ap (λ (s : Slot). s .limit) (slot-at v held t (omega (arith, slots-length v held))));
+        count-fits = held-few v held;
+      }
 
-module _ (v : Book) (held : Held v) (lay : Layout) (is : LayoutIs (problemOf v) lay) where
-  pub laidout : Laidout (problemOf v) lay (v .count)
-  laidout = subst (Laidout (problemOf v) lay) (sym (held-count v held)) (record { modelled = is .modelled; ratio = is .ratio; slots-are = is .slots-are; loads-are = is .loads-are; count-is = refl })
+  cells-are : grid .cells ≡ cells (problemOf v)
+  unfolding cells
+  cells-are = is .cells-are
 
-  abbrev pub model : Modelled (lay .grid) (lay .origin) (v .count) (lay .moves)
-  model = laidout .modelled
+  pub words-enough : (ws : List ℕ) → neededWords (problemOf v) ≤ length ws → 4 * grid .cells ≤ length ws
+  words-enough ws h = omega (arith, h, cells-are)
+
+  pub words-kept : (ws ws′ lows highs : List ℕ) (cur : ℕ) → Places ws ws′ lows highs grid cur
+      → drop (4 * grid .cells) ws′ ≡ drop (4 * grid .cells) ws → WordsKept (neededWords (problemOf v)) ws ws′
+  words-kept ws ws′ lows highs cur p e =
+      record { same-length = p .same-length; kept = subst (λ x. drop (4 * x) ws′ ≡ drop (4 * x) ws) cells-are e }
+
+-- ---- what the search asks of a book
+
+settings-below : (vs : Settings) → Labelled vs → Every SettingSmall vs → Every (SettingBelow 65535) vs
+settings-below vs a s =
+    every-of-mem (SettingBelow 65535) vs (λ v m. (omega (arith, every-mem SettingSmall v vs m s .worth), omega (arith, number-small vs v a m)))
+
+pub loads-below : (loads : List Settings) → Every Labelled loads → Every (Every SettingSmall) loads → Every (Every (SettingBelow 65535)) loads
+loads-below [] a s = tt
+loads-below (vs ∷ loads) a s = (settings-below vs (a .0) (s .0), loads-below loads (a .1) (s .1))
+
+module _ (v : Book) (held : Held v) (grid : Grid) (is : GridIs (slotsOf (problemOf v)) grid) (moves : List LoadMoves)
+    (loads : (k : ℕ) → k < v .count → LoadIs (slotsOf (problemOf v)) k (getD (problemOf v .loads) k []) (movesOf moves k)) where
+  unfoldable pub model : Modelled grid (v .count) moves
+  model =
+      let b = problemOf v in
+      let valid = held-valid v held in
+      record {
+        r = 1;
+        slots = slotsOf b;
+        loads = b .loads;
+        ready =
+            record {
+              for = subst (λ n. SlotsFor 1 n (slotsOf b)) (sym (held-count v held)) (slots-for b);
+              some-ratio = omega arith;
+              few = omega (arith, held-count v held);
+              keeps = valid .loads .keeps;
+            };
+        loads-are = sym (held-count v held);
+        loads-fit = held-few v held;
+        some-load = omega (arith, held-count v held, valid .loads-some);
+        some-slot = omega (arith, slots-length v held, held-slots v held, valid .slots-some);
+        small = loads-below (b .loads) (valid .loads .labels) (valid .loads .small);
+        grid-is = is;
+        each = loads;
+      }
 
   trials-are : trialsOf model (v .count) ≡ trials (problemOf v)
-  unfolding trials
-  trials-are =
-      ap₂ (λ (ss : List Slot) (ls : List Settings). trialsUpto ss ls (v .count)) (laidout .slots-are) (laidout .loads-are)
-      ∙ ap (trialsUpto (slotsOf (problemOf v)) (problemOf v .loads)) (laidout .count-is)
-
-  pub words-enough : (ws : List ℕ) → neededWords (problemOf v) ≤ length ws → 4 * lay .grid .cells ≤ length ws
-  words-enough ws h = omega (arith, h, is .cells-are)
-
-  pub words-kept : (ws ws′ lows highs : List ℕ) (cur : ℕ) → Places ws ws′ lows highs (lay .grid) cur
-      → drop (4 * lay .grid .cells) ws′ ≡ drop (4 * lay .grid .cells) ws → WordsKept (neededWords (problemOf v)) ws ws′
-  words-kept ws ws′ lows highs cur p e =
-      record { same-length = p .same-length; kept = subst (λ x. drop (4 * x) ws′ ≡ drop (4 * x) ws) (is .cells-are) e }
+  unfolding trials model
+  trials-are = ap (trialsUpto (slotsOf (problemOf v)) (problemOf v .loads)) (held-count v held)
 
   -- over the budget
-  pub found-over : (ws lows highs : List ℕ) (cur ts : ℕ) → Searched ws lows highs (lay .grid) (lay .origin) (v .count) (lay .moves) model (v .budget) cur ts → v .budget < ts
+  pub found-over : (ws lows highs : List ℕ) (cur ts : ℕ) → Searched ws lows highs grid (v .count) moves model (v .budget) cur ts → v .budget < ts
       → (admitted : Bool) (code : ℕ) → Found (problemOf v) (record { within = false; trials = ts; admitted = admitted; code = code })
   unfolding problemOf
   found-over ws lows highs cur ts s h admitted code =
@@ -106,33 +139,19 @@ module _ (v : Book) (held : Held v) (lay : Layout) (is : LayoutIs (problemOf v) 
         planned = λ e. absurd (false≢true e);
       }
 
-  module _ (steps tops widths : List ℕ) (ins : SlotsIn 0 steps tops widths (v .limits) 0 (slotsOf (problemOf v))) where
-    slots-in : SlotsIn 0 steps (lay .grid .tops) widths (v .limits) 0 (model .slots)
-    slots-in = tops-for 0 steps tops (lay .grid .tops) widths (v .limits) 0 (model .slots)
-        (subst (SlotsIn 0 steps tops widths (v .limits) 0) (sym (laidout .slots-are)) ins) (model .grid-is .tops-are)
-
-    small : Every SlotSmall (model .slots)
-    small = subst (Every SlotSmall) (sym (laidout .slots-are)) (slots-small (problemOf v) (held-valid v held .limits-small))
-
-    -- what the scan asks of the slots
-    pub scanned : SlotsHeld (lay .grid .slots) (v .count) steps (lay .grid .tops) widths (v .limits)
-    scanned = slots-held model slots-in small
-
-    -- within the budget: the trials, and the plan
-    pub found-within : (ws lows highs : List ℕ) (cur ts : ℕ) (r : Cell)
-        → Searched ws lows highs (lay .grid) (lay .origin) (v .count) (lay .moves) model (v .budget) cur ts → ts ≤ v .budget
-        → ((h : SlotsHeld (lay .grid .slots) (v .count) steps (lay .grid .tops) widths (v .limits)) → keyOf r ≡ bestOfLayer (h .ss) ws lows highs (lay .grid) cur)
-        → Found (problemOf v) (record { within = true; trials = ts; admitted = not (eqb (r .worth) 0); code = r .code })
-    unfolding problemOf plan
-    found-within ws lows highs cur ts r s h found =
-        let w = s .within h in
-        let t : ts ≡ trials (problemOf v) = w .0 ∙ trials-are in
-        let k = scan-finds model ws lows highs cur r (laidout .ratio) slots-in small (w .1) found
-        ∙ ap₂ (λ (ss : List Slot) (ls : List Settings). key? (bestAdmitted ss ls)) (laidout .slots-are) (laidout .loads-are) in
-        record {
-          over = λ e. absurd (false≢true (sym e));
-          enough = λ e. subst (λ x. x ≤ v .budget) t h;
-          counted = λ e. t;
-          missing = λ e f. cell-none r (plan (problemOf v)) k (eqb-true (r .worth) 0 (not-false (eqb (r .worth) 0) f));
-          planned = λ e f. cell-some r (plan (problemOf v)) k (λ z. false≢true (sym (not-true (eqb (r .worth) 0) f) ∙ eq-eqb (r .worth) 0 z));
-        }
+  -- within the budget: the trials, and the plan
+  pub found-within : (ws lows highs : List ℕ) (cur ts : ℕ) (r : Cell) → Searched ws lows highs grid (v .count) moves model (v .budget) cur ts → ts ≤ v .budget
+      → ((h : SlotsHeld grid (v .count) (v .limits)) → keyOf r ≡ bestOfLayer (h .laid .slots) ws lows highs grid cur)
+      → Found (problemOf v) (record { within = true; trials = ts; admitted = not (eqb (r .worth) 0); code = r .code })
+  unfolding problemOf plan model laid scanned
+  found-within ws lows highs cur ts r s h found =
+      let w = s .within h in
+      let t : ts ≡ trials (problemOf v) = w .0 ∙ trials-are in
+      let k = scan-finds model ws lows highs cur r (scanned v held grid is) refl (w .1) found in
+      record {
+        over = λ e. absurd (false≢true (sym e));
+        enough = λ e. subst (λ x. x ≤ v .budget) t h;
+        counted = λ e. t;
+        missing = λ e f. cell-none r (plan (problemOf v)) k (eqb-true (r .worth) 0 (not-false (eqb (r .worth) 0) f));
+        planned = λ e f. cell-some r (plan (problemOf v)) k (λ z. false≢true (sym (not-true (eqb (r .worth) 0) f) ∙ eq-eqb (r .worth) 0 z));
+      }

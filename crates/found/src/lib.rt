@@ -1,7 +1,6 @@
 // What the search finds: the trials of a book whose table fits the work area, and the plan's code or that there is no plan; and the numbers of a code.
-use layout::Layout;
+use grid::Grid;
 use model::Book;
-use slots::Slots;
 ghost use mathlib.Core.Path.{_≡_};
 ghost use Prim.Native.Nat.{_≤_};
 ghost use lib.ListN.{length, take};
@@ -10,8 +9,7 @@ ghost use Rattle.model.specs.Choice.{decode};
 ghost use Rattle.model.specs.Grid.{slotsOf};
 ghost use Rattle.model.specs.Trials.{neededWords, WordsKept};
 ghost use Rattle.model.specs.Values.{Held, problemOf};
-ghost use Rattle.slots.specs.Slots.{SlotsIn};
-ghost use Rattle.layout.specs.Layout.{LayoutIs};
+ghost use Rattle.grid.specs.Geometry.{GridIs};
 ghost use Rattle.found.specs.Found.{Found};
 
 // Whether the trials are within the budget; if so, their number, and whether a choice is admitted; if one is, the code of the plan.
@@ -39,19 +37,17 @@ pub fn picks_of(code: u64, count: usize) -> [usize; Book::LOADS]
 }
 
 // Searches the table of a book that fits into the work area.
-pub fn search_for(book: Book, slots: Slots, layout: Layout, work: &mut [u64]) -> Search
+pub fn search_for(book: Book, grid: Grid, work: &mut [u64]) -> Search
     requires { ⌜ Held book ⌝ }
-    requires { ⌜ SlotsIn 0 (slots .steps) (slots .tops) (slots .widths) (book .limits) 0 (slotsOf (problemOf book)) ⌝ }
-    requires { ⌜ LayoutIs (problemOf book) layout ⌝ }
+    requires { ⌜ GridIs (slotsOf (problemOf book)) grid ⌝ }
     requires { ⌜ neededWords (problemOf book) ≤ length (now work) ⌝ }
     ensures found { λ r. ⌜ Found (problemOf book) r ⌝ }
     ensures words { λ _. ⌜ WordsKept (neededWords (problemOf book)) (now (work .entry)) (now (work .exit)) ⌝ }
 {
-    let grid = layout.grid;
-    let moves = layout.moves;
+    let moves = moves::loads_of(book, grid);
     let count = book.count;
     let budget = book.budget as usize;
-    let ran = search::search(work, grid, layout.origin, count, moves, budget);
+    let ran = search::search(work, grid, count, moves, budget);
     let trials = ran.trials;
     if budget < trials {
         return Search {
@@ -63,20 +59,8 @@ pub fn search_for(book: Book, slots: Slots, layout: Layout, work: &mut [u64]) ->
     }
     let lows = ran.lows;
     let highs = ran.highs;
-    let steps = slots.steps;
-    let widths = slots.widths;
     let limits = book.limits;
-    let best = scan::scan(
-        work,
-        grid,
-        ran.cur,
-        &lows,
-        &highs,
-        count as u64,
-        steps,
-        widths,
-        limits,
-    );
+    let best = scan::scan(work, grid, ran.cur, &lows, &highs, count as u64, limits);
     // A reached cell holds its worth plus 1, so a plan's is not 0.
     Search {
         within: true,

@@ -174,20 +174,20 @@ fits-admits s c h n k = admits-of s (gridIn s c) (go (rounded-choice s h c))
           inside = subst (λ m. m ≤ square (s .limit)) (ap₂ _+_ (ap square (r .p-is)) (ap squareℤ (r .q-is))) k;
         }
 
-slots-from : (n d i : ℕ) (ss : List ℕ) → SlotsFor n (slotsFrom n d i ss)
-slots-from n d i [] = tt
-slots-from n d i (s ∷ ss) = ((le-max-left 1 (s / (n * d)), refl), slots-from n d (suc i) ss)
+slots-from : (n d r i : ℕ) (ss : List ℕ) → SlotsFor r n (slotsFrom n d r i ss)
+slots-from n d r i [] = tt
+slots-from n d r i (s ∷ ss) = ((le-max-left 1 (s / (n * d)), refl, refl), slots-from n d r (suc i) ss)
 
-pub slots-for : (b : Problem) → SlotsFor (length (b .loads)) (slotsOf b)
+pub slots-for : (b : Problem) → SlotsFor 1 (length (b .loads)) (slotsOf b)
 unfolding slotsOf
-slots-for b = slots-from (length (b .loads)) (b .fineness) 0 (b .limits)
+slots-for b = slots-from (length (b .loads)) (b .fineness) 1 0 (b .limits)
 
 -- A CHOICE THAT KEEPS EVERY LIMIT IS ADMITTED
-pub keeps-admitted : (n : ℕ) (slots : List Slot) → SlotsFor n slots → (c : Choice) → length c ≡ n → T (keepsLimits slots c) → T (admitted slots c)
-keeps-admitted n [] z c e t = tt
-keeps-admitted n (s ∷ slots) z c e t =
+pub keeps-admitted : (r n : ℕ) (slots : List Slot) → SlotsFor r n slots → (c : Choice) → length c ≡ n → T (keepsLimits slots c) → T (admitted slots c)
+keeps-admitted r n [] z c e t = tt
+keeps-admitted r n (s ∷ slots) z c e t =
     go (both (leb (apparentSquared (sumIn (s .place) c)) (square (s .limit))) (keepsLimits slots c) t)
-    (λ u. keeps-admitted n slots (z .1) c e u)
+    (λ u. keeps-admitted r n slots (z .1) c e u)
   where
     go : T (leb (apparentSquared (sumIn (s .place) c)) (square (s .limit))) × T (keepsLimits slots c)
         → (T (keepsLimits slots c) → T (admitted slots c)) → T (admitted (s ∷ slots) c)

@@ -16,7 +16,7 @@ use Rattle.model.specs.Lists.{Mem, Every}
 use Rattle.model.specs.Refusals.{Result, done}
 use Rattle.model.specs.Book.{Setting, Settings, Problem, readBook}
 use Rattle.model.specs.Choice.{Choice, IsChoice, noSetting, worthOf, sumIn, square, apparentSquared}
-use Rattle.model.specs.Grid.{Slot, stepFor, slotsFrom, slotsOf, keepsLimits, gridIn, spreadOf, times, Admissible, admits, admitted, plan}
+use Rattle.model.specs.Grid.{Slot, slotAt, slotsFrom, slotsOf, keepsLimits, gridIn, spreadOf, times, Admissible, admits, admitted, plan}
 use Rattle.model.specs.Trials.{trials}
 use Rattle.model.specs.Sheet.{sheetBytes}
 use Rattle.model.specs.Calls.{planned, plannerResult}
@@ -38,26 +38,23 @@ use Rattle.model.proofs.Overload as Overload
 
 -- ---- slots by their number
 
-abbrev pub slotAt : ℕ → ℕ → ℕ → ℕ → Slot
-slotAt n d i s = record { place = i; limit = s; step = stepFor n d s; loads = n }
-
-keeps-all : (n d i : ℕ) (ss : List ℕ) (c : Choice)
-    → ((k : ℕ) → k < length ss → apparentSquared (sumIn (i + k) c) ≤ square (getD ss k 0)) → Dec.T (keepsLimits (slotsFrom n d i ss) c)
-keeps-all n d i [] c h = tt
-keeps-all n d i (s ∷ ss) c h =
-    each (leb (apparentSquared (sumIn i c)) (square s)) (keepsLimits (slotsFrom n d (suc i) ss) c)
+keeps-all : (n d r i : ℕ) (ss : List ℕ) (c : Choice)
+    → ((k : ℕ) → k < length ss → apparentSquared (sumIn (i + k) c) ≤ square (getD ss k 0)) → Dec.T (keepsLimits (slotsFrom n d r i ss) c)
+keeps-all n d r i [] c h = tt
+keeps-all n d r i (s ∷ ss) c h =
+    each (leb (apparentSquared (sumIn i c)) (square s)) (keepsLimits (slotsFrom n d r (suc i) ss) c)
     (le→leb _ _ (subst (λ j. apparentSquared (sumIn j c) ≤ square s) (add-zero i) (h 0 (omega arith))))
-    (keeps-all n d (suc i) ss c (λ k l. subst (λ j. apparentSquared (sumIn j c) ≤ square (getD ss k 0)) (suc-across i k) (h (suc k) (omega arith))))
+    (keeps-all n d r (suc i) ss c (λ k l. subst (λ j. apparentSquared (sumIn j c) ≤ square (getD ss k 0)) (suc-across i k) (h (suc k) (omega arith))))
 
-admitted-at : (n d i : ℕ) (ss : List ℕ) (c : Choice) → Dec.T (admitted (slotsFrom n d i ss) c)
-    → (k : ℕ) → k < length ss → Dec.T (admits (slotAt n d (i + k) (getD ss k 0)) (gridIn (slotAt n d (i + k) (getD ss k 0)) c))
-admitted-at n d i [] c t k l = absurd (omega arith)
-admitted-at n d i (s ∷ ss) c t zero l =
-    subst (λ j. Dec.T (admits (slotAt n d j s) (gridIn (slotAt n d j s) c))) (sym (add-zero i))
-    (both (admits (slotAt n d i s) (gridIn (slotAt n d i s) c)) (admitted (slotsFrom n d (suc i) ss) c) t .0)
-admitted-at n d i (s ∷ ss) c t (suc k) l =
-    subst (λ j. Dec.T (admits (slotAt n d j (getD ss k 0)) (gridIn (slotAt n d j (getD ss k 0)) c))) (sym (suc-across i k))
-    (admitted-at n d (suc i) ss c (both (admits (slotAt n d i s) (gridIn (slotAt n d i s) c)) (admitted (slotsFrom n d (suc i) ss) c) t .1) k (le-of-suc-le-suc l))
+admitted-at : (n d r i : ℕ) (ss : List ℕ) (c : Choice) → Dec.T (admitted (slotsFrom n d r i ss) c)
+    → (k : ℕ) → k < length ss → Dec.T (admits (slotAt n d r (i + k) (getD ss k 0)) (gridIn (slotAt n d r (i + k) (getD ss k 0)) c))
+admitted-at n d r i [] c t k l = absurd (omega arith)
+admitted-at n d r i (s ∷ ss) c t zero l =
+    subst (λ j. Dec.T (admits (slotAt n d r j s) (gridIn (slotAt n d r j s) c))) (sym (add-zero i))
+    (both (admits (slotAt n d r i s) (gridIn (slotAt n d r i s) c)) (admitted (slotsFrom n d r (suc i) ss) c) t .0)
+admitted-at n d r i (s ∷ ss) c t (suc k) l =
+    subst (λ j. Dec.T (admits (slotAt n d r j (getD ss k 0)) (gridIn (slotAt n d r j (getD ss k 0)) c))) (sym (suc-across i k))
+    (admitted-at n d r (suc i) ss c (both (admits (slotAt n d r i s) (gridIn (slotAt n d r i s) c)) (admitted (slotsFrom n d r (suc i) ss) c) t .1) k (le-of-suc-le-suc l))
 
 -- ---- one admitted slot
 
@@ -91,8 +88,8 @@ near s c h n t =
     }
 
 -- d e ≤ S, and e is 0 where S < 2 N d
-spread-small : (n d i s : ℕ) → d * spreadOf (slotAt n d i s) ≤ s
-spread-small n d i s = go (decLe (s / (n * d)) 1)
+spread-small : (n d r i s : ℕ) → d * spreadOf (slotAt n d r i s) ≤ s
+spread-small n d r i s = go (decLe (s / (n * d)) 1)
   where
     go : Dec (s / (n * d) ≤ 1) → d * (n * (max 1 (s / (n * d)) - 1)) ≤ s
     go (yes h) =
@@ -102,8 +99,8 @@ spread-small n d i s = go (decLe (s / (n * d)) 1)
         let z : max 1 (s / (n * d)) - 1 ≤ s / (n * d) = omega arith in
         omega (arith, div-mul-le-self s (n * d), mul-le-mul-left (n * d) z)
 
-spread-zero : (n d i s : ℕ) → s < 2 * (n * d) → spreadOf (slotAt n d i s) ≡ 0
-spread-zero n d i s h =
+spread-zero : (n d r i s : ℕ) → s < 2 * (n * d) → spreadOf (slotAt n d r i s) ≡ 0
+spread-zero n d r i s h =
     let l : s / (n * d) < 2 = div-lt-iff-lt-mul {k = n * d} (omega arith) .1 h in
     let z : max 1 (s / (n * d)) - 1 ≡ 0 = omega arith in
     rw (z, mul-zero)
@@ -112,13 +109,13 @@ spread-zero n d i s h =
 as-squares : (i : ℕ) (c : Choice) → apparentSquaredIn i c ≡ sumIn i c .p * sumIn i c .p + natAbs (sumIn i c .q) * natAbs (sumIn i c .q)
 as-squares i c = ap (λ m. square (sumIn i c .p) + m) (square-abs (sumIn i c .q))
 
-module _ (n d i s : ℕ) (c : Choice) (few : length c ≤ n) (t : Dec.T (admits (slotAt n d i s) (gridIn (slotAt n d i s) c))) where
-  here : Near (sumIn i c .p) (natAbs (sumIn i c .q)) (spreadOf (slotAt n d i s)) s
-  here = near (slotAt n d i s) c (le-max-left 1 (s / (n * d))) few t
+module _ (n d r i s : ℕ) (c : Choice) (few : length c ≤ n) (t : Dec.T (admits (slotAt n d r i s) (gridIn (slotAt n d r i s) c))) where
+  here : Near (sumIn i c .p) (natAbs (sumIn i c .q)) (spreadOf (slotAt n d r i s)) s
+  here = near (slotAt n d r i s) c (le-max-left 1 (s / (n * d))) few t
 
   slot-exact : s < 2 * (n * d) → apparentSquaredIn i c ≤ square s
   slot-exact h =
-      let z : spreadOf (slotAt n d i s) ≡ 0 = spread-zero n d i s h in
+      let z : spreadOf (slotAt n d r i s) ≡ 0 = spread-zero n d r i s h in
       let x : sumIn i c .p ≤ here .p = omega (arith, here .p-near) in
       let y : natAbs (sumIn i c .q) ≤ here .q = omega (arith, here .q-near) in
       subst (λ m. m ≤ square s) (sym (as-squares i c)) (omega (arith, sq-mono x, sq-mono y, here .keeps))
@@ -127,24 +124,24 @@ module _ (n d i s : ℕ) (c : Choice) (few : length c ≤ n) (t : Dec.T (admits 
 
 -- the slot of a book with that number
 abbrev slotIn : Problem → ℕ → Slot
-slotIn b slot = slotAt (N b) (b .fineness) slot (S b slot)
+slotIn b slot = slotAt (N b) (b .fineness) 1 slot (S b slot)
 
 admitted-in : (b : Problem) (c : Choice) → Dec.T (admitted (slotsOf b) c)
     → (slot : ℕ) → slot < T b → Dec.T (admits (slotIn b slot) (gridIn (slotIn b slot) c))
 unfolding slotsOf
 admitted-in b c t slot l =
-    subst (λ j. Dec.T (admits (slotAt (N b) (b .fineness) j (S b slot)) (gridIn (slotAt (N b) (b .fineness) j (S b slot)) c))) (zero-add slot)
-    (admitted-at (N b) (b .fineness) 0 (b .limits) c t slot l)
+    subst (λ j. Dec.T (admits (slotAt (N b) (b .fineness) 1 j (S b slot)) (gridIn (slotAt (N b) (b .fineness) 1 j (S b slot)) c))) (zero-add slot)
+    (admitted-at (N b) (b .fineness) 1 0 (b .limits) c t slot l)
 
 -- M-106 of an admitted choice
 closer-kept : (b : Problem) (c : Choice) → length c ≤ N b → Dec.T (admitted (slotsOf b) c) → CloserOverload b c
 closer-kept b c few t slot l =
     let h : Near (sumIn slot c .p) (natAbs (sumIn slot c .q)) (spreadOf (slotIn b slot)) (S b slot)
-    = here (N b) (b .fineness) slot (S b slot) c few (admitted-in b c t slot (omega arith)) in
+    = here (N b) (b .fineness) 1 slot (S b slot) c few (admitted-in b c t slot (omega arith)) in
     omega (
       arith,
       Overload.closer (sumIn slot c .p) (natAbs (sumIn slot c .q)) (h .p) (h .q) (spreadOf (slotIn b slot)) (h .p-near) (h .q-near)
-          (b .fineness) (S b slot) (spread-small (N b) (b .fineness) slot (S b slot)) (apparentSquaredIn slot c) (as-squares slot c) (h .keeps),
+          (b .fineness) (S b slot) (spread-small (N b) (b .fineness) 1 slot (S b slot)) (apparentSquaredIn slot c) (as-squares slot c) (h .keeps),
     )
 
 -- ---- the call
@@ -183,12 +180,12 @@ sheet-demand3 book b c t past e p =
       runs = book-runs book b e c (sound .0);
       worth = λ other m h.
           plan-worth b c p other m
-          (keeps-all (N b) (b .fineness) 0 (b .limits) other
+          (keeps-all (N b) (b .fineness) 1 0 (b .limits) other
           (λ k l. subst (λ j. apparentSquared (sumIn j other) ≤ square (getD (b .limits) k 0)) (sym (zero-add k)) (h k l)));
       closer = closer;
       -- "The older bound then follows from this one", as 2d + 3 ≤ 2(d + 2); slot < T is asked anew, so that a claim of fewer slots is refused here
       overload = λ slot l. omega (arith, closer slot (omega arith));
-      exact = λ slot l small. slot-exact (N b) (b .fineness) slot (S b slot) c few (admitted-in b c (sound .1) slot l) (omega arith);
+      exact = λ slot l small. slot-exact (N b) (b .fineness) 1 slot (S b slot) c few (admitted-in b c (sound .1) slot l) (omega arith);
     }
 
 -- DEMAND 3 of the call: whenever the answer has number 0

@@ -1,34 +1,34 @@
 -- A cell index for lists of grid pairs, by rows: below the number of cells, and different for different lists, where every pair is within the slot's
--- range. The pairs that choices of a book have are within it once a ≤ R. For every ratio r from 1 on.
+-- range. The pairs that choices of a book have are within it once a ≤ R. For every ratio from 1 on.
 -- Assumes nothing.
-use mathlib.Core.Path.{_≡_, refl, sym, ap, ap₂, _∙_, subst, fun-ext}
+use mathlib.Core.Path.{_≡_, refl, sym, ap, ap₂, _∙_, subst}
 use mathlib.Core.Logic.{_⊎_, inl, inr}
-use mathlib.Core.List.{List, [], _∷_, map}
-use Prim.Native.Nat.{ℕ, suc, _+_, _*_, _-_, _<_, _≤_, _/_, _%_}
+use mathlib.Core.List.{List, [], _∷_}
+use Prim.Native.Nat.{ℕ, zero, suc, _+_, _*_, _-_, _<_, _≤_, _/_, _%_}
 use native.Mathlib.Nat.{mul-comm, mul-assoc, mul-le-mul-left, div-add-mod', mod-lt, div-lt-iff-lt-mul}
 use native.Mathlib.Omega.{arith}
 use lib.Arith.{digits-lt, digits-div, digits-mod}
 use lib.Dec.{T, eqb, eqb→eq, eqb-refl}
 use lib.IntN.{ℤ, pos, negsuc, natAbs, subℕ, _+ℤ_}
 use lib.ListN.{length}
-use Rattle.model.specs.Lists.{product, sameLists}
-use Rattle.model.specs.Book.{Power, Problem}
+use Rattle.model.specs.Lists.{sameLists}
+use Rattle.model.specs.Book.{Power}
 use Rattle.model.specs.Choice.{Choice, powerIn}
-use Rattle.model.specs.Grid.{Slot, slotsOf, floorDiv, gridIn}
-use Rattle.model.specs.Trials.{gridTop, pairsOf, cells, sameℤ, samePair}
-use Rattle.model.specs.Index.{up, down, depthOf, widthOf, pairsAt, raisedIn, rowIndex, columnIndex, rowCount, columnCount, indexOf, gridFrom}
+use Rattle.model.specs.Grid.{Slot, floorDiv, gridIn}
+use Rattle.model.specs.Trials.{gridTop, widthOf, pairsOf, cellCount, sameℤ, samePair}
+use Rattle.model.specs.Index.{up, down, depthOf, raisedIn, rowIndex, columnIndex, rowCount, columnCount, indexOf, gridFrom}
 use Rattle.model.proofs.ListLaws.{both, each, bool-same}
 use Rattle.model.proofs.IntegerLaws.{split, sub-pos, sub-neg, sub-same, sub-add, as-sub}
 
-abbrev pub gridAt : ℕ → List Slot → ℕ → List Power
-gridAt r slots i = gridFrom r slots (i / columnCount r slots) (i % columnCount r slots)
+abbrev pub gridAt : List Slot → ℕ → List Power
+gridAt slots i = gridFrom slots (i / columnCount slots) (i % columnCount slots)
 
 -- the rows and columns make up the cells
-pub cells-area : (r : ℕ) (slots : List Slot) → rowCount slots * columnCount r slots ≡ product (map (pairsAt r) slots)
-cells-area r [] = omega arith
-cells-area r (s ∷ slots) =
-    swap (rowCount slots) (gridTop s + 1) (columnCount r slots) (widthOf r s)
-    ∙ ap (λ n. pairsAt r s * n) (cells-area r slots)
+pub cells-area : (slots : List Slot) → rowCount slots * columnCount slots ≡ cellCount slots
+cells-area [] = omega arith
+cells-area (s ∷ slots) =
+    swap (rowCount slots) (gridTop s + 1) (columnCount slots) (widthOf s)
+    ∙ ap (λ n. pairsOf s * n) (cells-area slots)
   where
     swap : (a b c d : ℕ) → a * b * (c * d) ≡ b * d * (a * c)
     swap a b c d =
@@ -38,68 +38,68 @@ cells-area r (s ∷ slots) =
         ∙ mul-comm (a * c) (b * d)
 
 -- the pair is within its slot's range
-pub record Within (r : ℕ) (s : Slot) (g : Power) : Type 0 where
+pub record Within (s : Slot) (g : Power) : Type 0 where
   pub active : g .p ≤ gridTop s
-  pub low : down (g .q) ≤ depthOf r s
-  pub high : up (g .q) + depthOf r s < widthOf r s
+  pub low : down (g .q) ≤ depthOf s
+  pub high : up (g .q) + depthOf s < widthOf s
 
-abbrev pub WithinAll : ℕ → List Slot → List Power → Type 0
-WithinAll r [] [] = Unit {0}
-WithinAll r [] (g ∷ gs) = ⊥
-WithinAll r (s ∷ slots) [] = ⊥
-WithinAll r (s ∷ slots) (g ∷ gs) = Within r s g × WithinAll r slots gs
+abbrev pub WithinAll : List Slot → List Power → Type 0
+WithinAll [] [] = Unit {0}
+WithinAll [] (g ∷ gs) = ⊥
+WithinAll (s ∷ slots) [] = ⊥
+WithinAll (s ∷ slots) (g ∷ gs) = Within s g × WithinAll slots gs
 
-active-below : {r : ℕ} {s : Slot} {g : Power} → Within r s g → g .p < gridTop s + 1
+active-below : {s : Slot} {g : Power} → Within s g → g .p < gridTop s + 1
 active-below w = omega (arith, w .active)
 
-raised-below : {r : ℕ} {s : Slot} {g : Power} → Within r s g → raisedIn r s g < widthOf r s
+raised-below : {s : Slot} {g : Power} → Within s g → raisedIn s g < widthOf s
 raised-below w = omega (arith, w .high)
 
-pub row-below : (r : ℕ) (slots : List Slot) (gs : List Power) → WithinAll r slots gs → rowIndex slots gs < rowCount slots
-row-below r [] [] w = omega arith
-row-below r [] (g ∷ gs) w = absurd w
-row-below r (s ∷ slots) [] w = absurd w
-row-below r (s ∷ slots) (g ∷ gs) w = digits-lt (row-below r slots gs (w .1)) (active-below (w .0))
+pub row-below : (slots : List Slot) (gs : List Power) → WithinAll slots gs → rowIndex slots gs < rowCount slots
+row-below [] [] w = omega arith
+row-below [] (g ∷ gs) w = absurd w
+row-below (s ∷ slots) [] w = absurd w
+row-below (s ∷ slots) (g ∷ gs) w = digits-lt (row-below slots gs (w .1)) (active-below (w .0))
 
-pub column-below : (r : ℕ) (slots : List Slot) (gs : List Power) → WithinAll r slots gs → columnIndex r slots gs < columnCount r slots
-column-below r [] [] w = omega arith
-column-below r [] (g ∷ gs) w = absurd w
-column-below r (s ∷ slots) [] w = absurd w
-column-below r (s ∷ slots) (g ∷ gs) w = digits-lt (column-below r slots gs (w .1)) (raised-below (w .0))
+pub column-below : (slots : List Slot) (gs : List Power) → WithinAll slots gs → columnIndex slots gs < columnCount slots
+column-below [] [] w = omega arith
+column-below [] (g ∷ gs) w = absurd w
+column-below (s ∷ slots) [] w = absurd w
+column-below (s ∷ slots) (g ∷ gs) w = digits-lt (column-below slots gs (w .1)) (raised-below (w .0))
 
-pub index-below : (r : ℕ) (slots : List Slot) (gs : List Power) → WithinAll r slots gs → indexOf r slots gs < product (map (pairsAt r) slots)
-index-below r slots gs w =
-    subst (λ n. indexOf r slots gs < n) (cells-area r slots)
-    (digits-lt (row-below r slots gs w) (column-below r slots gs w))
+pub index-below : (slots : List Slot) (gs : List Power) → WithinAll slots gs → indexOf slots gs < cellCount slots
+index-below slots gs w =
+    subst (λ n. indexOf slots gs < n) (cells-area slots)
+    (digits-lt (row-below slots gs w) (column-below slots gs w))
 
 -- ---- the list from the cell, so different lists have different cells
 
-pub grid-from : (r : ℕ) (slots : List Slot) (gs : List Power) → WithinAll r slots gs → gridFrom r slots (rowIndex slots gs) (columnIndex r slots gs) ≡ gs
-grid-from r [] [] w = refl
-grid-from r [] (g ∷ gs) w = absurd w
-grid-from r (s ∷ slots) [] w = absurd w
-grid-from r (s ∷ slots) (g ∷ gs) w =
+pub grid-from : (slots : List Slot) (gs : List Power) → WithinAll slots gs → gridFrom slots (rowIndex slots gs) (columnIndex slots gs) ≡ gs
+grid-from [] [] w = refl
+grid-from [] (g ∷ gs) w = absurd w
+grid-from (s ∷ slots) [] w = absurd w
+grid-from (s ∷ slots) (g ∷ gs) w =
     ap₂ {C = List Power} (λ x rest. x ∷ rest)
     (λ i. record { p = digits-mod (rowIndex slots gs) (active-below (w .0)) i; q = reactive i })
-    (ap₂ (gridFrom r slots) (digits-div (rowIndex slots gs) (active-below (w .0))) (digits-div (columnIndex r slots gs) (raised-below (w .0)))
-    ∙ grid-from r slots gs (w .1))
+    (ap₂ (gridFrom slots) (digits-div (rowIndex slots gs) (active-below (w .0))) (digits-div (columnIndex slots gs) (raised-below (w .0)))
+    ∙ grid-from slots gs (w .1))
   where
-    reactive : subℕ ((columnIndex r slots gs * widthOf r s + raisedIn r s g) % widthOf r s) (depthOf r s) ≡ g .q
+    reactive : subℕ ((columnIndex slots gs * widthOf s + raisedIn s g) % widthOf s) (depthOf s) ≡ g .q
     reactive =
-        ap (λ n. subℕ n (depthOf r s)) (digits-mod (columnIndex r slots gs) (raised-below (w .0)))
-        ∙ sub-same (raisedIn r s g) (depthOf r s) (up (g .q)) (down (g .q)) (omega (arith, w .0 .low))
+        ap (λ n. subℕ n (depthOf s)) (digits-mod (columnIndex slots gs) (raised-below (w .0)))
+        ∙ sub-same (raisedIn s g) (depthOf s) (up (g .q)) (down (g .q)) (omega (arith, w .0 .low))
         ∙ sym (as-sub (g .q))
 
-pub grid-back : (r : ℕ) (slots : List Slot) (gs : List Power) → WithinAll r slots gs → gridAt r slots (indexOf r slots gs) ≡ gs
-grid-back r slots gs w =
-    ap₂ (gridFrom r slots)
-    (digits-div (rowIndex slots gs) (column-below r slots gs w))
-    (digits-mod (rowIndex slots gs) (column-below r slots gs w))
-    ∙ grid-from r slots gs w
+pub grid-back : (slots : List Slot) (gs : List Power) → WithinAll slots gs → gridAt slots (indexOf slots gs) ≡ gs
+grid-back slots gs w =
+    ap₂ (gridFrom slots)
+    (digits-div (rowIndex slots gs) (column-below slots gs w))
+    (digits-mod (rowIndex slots gs) (column-below slots gs w))
+    ∙ grid-from slots gs w
 
-pub index-same : (r : ℕ) (slots : List Slot) (gs hs : List Power) → WithinAll r slots gs → WithinAll r slots hs
-    → indexOf r slots gs ≡ indexOf r slots hs → gs ≡ hs
-index-same r slots gs hs v w e = sym (grid-back r slots gs v) ∙ ap (gridAt r slots) e ∙ grid-back r slots hs w
+pub index-same : (slots : List Slot) (gs hs : List Power) → WithinAll slots gs → WithinAll slots hs
+    → indexOf slots gs ≡ indexOf slots hs → gs ≡ hs
+index-same slots gs hs v w e = sym (grid-back slots gs v) ∙ ap (gridAt slots) e ∙ grid-back slots hs w
 
 -- ---- the test on lists of pairs
 
@@ -134,12 +134,12 @@ pairs-refl (g ∷ gs) =
     (pairs-refl gs)
 
 -- the lists are the same exactly when their cells are
-pub index-apart : (r : ℕ) (slots : List Slot) (gs hs : List Power) → WithinAll r slots gs → WithinAll r slots hs
-    → sameLists samePair gs hs ≡ eqb (indexOf r slots hs) (indexOf r slots gs)
-index-apart r slots gs hs v w =
-    bool-same (sameLists samePair gs hs) (eqb (indexOf r slots hs) (indexOf r slots gs))
-    (λ t. subst (λ z. T (eqb (indexOf r slots z) (indexOf r slots gs))) (pairs-eq gs hs t) (eqb-refl (indexOf r slots gs)))
-    (λ t. subst (λ z. T (sameLists samePair gs z)) (sym (index-same r slots hs gs w v (eqb→eq _ _ t))) (pairs-refl gs))
+pub index-apart : (slots : List Slot) (gs hs : List Power) → WithinAll slots gs → WithinAll slots hs
+    → sameLists samePair gs hs ≡ eqb (indexOf slots hs) (indexOf slots gs)
+index-apart slots gs hs v w =
+    bool-same (sameLists samePair gs hs) (eqb (indexOf slots hs) (indexOf slots gs))
+    (λ t. subst (λ z. T (eqb (indexOf slots z) (indexOf slots gs))) (pairs-eq gs hs t) (eqb-refl (indexOf slots gs)))
+    (λ t. subst (λ z. T (sameLists samePair gs z)) (sym (index-same slots hs gs w v (eqb→eq _ _ t))) (pairs-refl gs))
 
 -- ---- the pairs of a choice are within the range, once a ≤ R
 
@@ -163,66 +163,58 @@ quotient-less r l n p hr hl h =
     div-lt-iff-lt-mul hl .1
     (omega (arith, mul-le-mul-left {m = p + 1} {n = p / l * l + l} r (omega (arith, div-add-mod' p l, mod-lt p hl))))
 
-up-grid : (r l p : ℕ) (q : ℤ) → 0 < l → natAbs q ≤ suc r * p → up (floorDiv q l) ≤ suc r * (p / l) + r
-up-grid r l p (pos n) hl h = omega (arith, quotient-less (suc r) l n p (omega arith) hl h)
-up-grid r l p (negsuc n) hl h = omega arith
+module _ (r l : ℕ) (hr : 0 < r) (hl : 0 < l) where
+  up-grid : (p : ℕ) (q : ℤ) → natAbs q ≤ r * p → up (floorDiv q l) < r * (p / l) + r
+  up-grid p (pos n) h = quotient-less r l n p hr hl h
+  up-grid p (negsuc n) h = omega arith
 
-down-grid : (r l p : ℕ) (q : ℤ) → 0 < l → natAbs q ≤ suc r * p → down (floorDiv q l) ≤ suc r * (p / l) + suc r
-down-grid r l p (pos n) hl h = omega arith
-down-grid r l p (negsuc n) hl h = omega (arith, quotient-less (suc r) l n p (omega arith) hl (omega arith))
+  down-grid : (p : ℕ) (q : ℤ) → natAbs q ≤ r * p → down (floorDiv q l) ≤ r * (p / l) + r
+  down-grid p (pos n) h = omega arith
+  down-grid p (negsuc n) h = omega (arith, quotient-less r l n p hr hl (omega arith))
 
 -- |Q| ≤ r P for each chosen setting in a slot
 abbrev pub Kept : ℕ → ℕ → Choice → Type 0
 Kept r place [] = Unit {0}
 Kept r place (v ∷ c) = (natAbs (powerIn place v .q) ≤ r * powerIn place v .p) × Kept r place c
 
-pub up-choice : (r : ℕ) (s : Slot) (c : Choice) → 0 < s .step → Kept (suc r) (s .place) c
-    → up (gridIn s c .q) ≤ suc r * gridIn s c .p + r * length c
-up-choice r s [] h k = omega arith
-up-choice r s (v ∷ c) h k =
-    omega (
-      arith,
-      int-plus (floorDiv (powerIn (s .place) v .q) (s .step)) (gridIn s c .q) .0,
-      up-grid r (s .step) (powerIn (s .place) v .p) (powerIn (s .place) v .q) h (k .0),
-      up-choice r s c h (k .1),
-    )
+module _ (r : ℕ) (hr : 0 < r) (s : Slot) (hl : 0 < s .step) where
+  up-choice : (c : Choice) → Kept r (s .place) c → up (gridIn s c .q) + length c ≤ r * gridIn s c .p + r * length c
+  up-choice [] k = omega arith
+  up-choice (v ∷ c) k =
+      omega (
+        arith,
+        int-plus (floorDiv (powerIn (s .place) v .q) (s .step)) (gridIn s c .q) .0,
+        up-grid r (s .step) hr hl (powerIn (s .place) v .p) (powerIn (s .place) v .q) (k .0),
+        up-choice c (k .1),
+      )
 
-pub down-choice : (r : ℕ) (s : Slot) (c : Choice) → 0 < s .step → Kept (suc r) (s .place) c
-    → down (gridIn s c .q) ≤ suc r * gridIn s c .p + suc r * length c
-down-choice r s [] h k = omega arith
-down-choice r s (v ∷ c) h k =
-    omega (
-      arith,
-      int-plus (floorDiv (powerIn (s .place) v .q) (s .step)) (gridIn s c .q) .0,
-      int-plus (floorDiv (powerIn (s .place) v .q) (s .step)) (gridIn s c .q) .1,
-      down-grid r (s .step) (powerIn (s .place) v .p) (powerIn (s .place) v .q) h (k .0),
-      down-choice r s c h (k .1),
-    )
+  down-choice : (c : Choice) → Kept r (s .place) c → down (gridIn s c .q) ≤ r * gridIn s c .p + r * length c
+  down-choice [] k = omega arith
+  down-choice (v ∷ c) k =
+      omega (
+        arith,
+        int-plus (floorDiv (powerIn (s .place) v .q) (s .step)) (gridIn s c .q) .0,
+        int-plus (floorDiv (powerIn (s .place) v .q) (s .step)) (gridIn s c .q) .1,
+        down-grid r (s .step) hr hl (powerIn (s .place) v .p) (powerIn (s .place) v .q) (k .0),
+        down-choice c (k .1),
+      )
 
-pub within-choice : (r : ℕ) (s : Slot) (c : Choice) → 0 < s .step → length c ≤ s .loads → Kept (suc r) (s .place) c
-    → gridIn s c .p ≤ gridTop s → Within (suc r) s (gridIn s c)
-within-choice r s c h n k a =
-    record {
-      active = a;
-      low =
-          omega
-          (arith, down-choice r s c h k, mul-le-mul-left (suc r) a, mul-le-mul-left (suc r) n);
-      high =
-          subst (λ m. up (gridIn s c .q) + depthOf (suc r) s < 2 * suc r * gridTop s + m * s .loads + 1) odd
-          (omega (arith, up-choice r s c h k, mul-le-mul-left (suc r) a, mul-le-mul-left r n));
-    }
+-- the widest b: at most rR above 0 for what a brings, and (r - 1) N for what rounding does; as far below 0, and N more
+below-width : (r R N u a n : ℕ) → 0 < r → u + n ≤ r * a + r * n → a ≤ R → n ≤ N → u + (r * R + r * N) < 2 * r * R + (2 * r - 1) * N + 1
+below-width zero R N u a n some h k l = absurd (omega arith)
+below-width (suc r) R N u a n some h k l =
+    subst (λ m. u + (suc r * R + suc r * N) < 2 * suc r * R + m * N + 1) odd
+    (omega (arith, mul-le-mul-left (suc r) k, mul-le-mul-left r l))
   where
     odd : suc (r + r) ≡ 2 * suc r - 1
     odd = omega arith
 
--- ---- at ratio 1 these are document 01's numbers
-
-inner-one : (a n : ℕ) → 2 * 1 * a + (2 * 1 - 1) * n + 1 ≡ 2 * a + n + 1
-inner-one a n = omega arith
-
-pub pairs-one : (s : Slot) → pairsAt 1 s ≡ pairsOf s
-pairs-one s = ap (λ x. (gridTop s + 1) * x) (inner-one (gridTop s) (s .loads))
-
-pub cells-one : (b : Problem) → product (map (pairsAt 1) (slotsOf b)) ≡ cells b
-unfolding cells
-cells-one b = ap (λ (f : Slot → ℕ). product (map f (slotsOf b))) (fun-ext pairs-one)
+-- EVERY b OF A CHOICE WITH a ≤ R LIES WITHIN, for every ratio
+pub within-choice : (s : Slot) (c : Choice) → 0 < s .step → 0 < s .ratio → length c ≤ s .loads → Kept (s .ratio) (s .place) c
+    → gridIn s c .p ≤ gridTop s → Within s (gridIn s c)
+within-choice s c hl hr n k a =
+    record {
+      active = a;
+      low = omega (arith, down-choice (s .ratio) hr s hl c k, mul-le-mul-left (s .ratio) a, mul-le-mul-left (s .ratio) n);
+      high = below-width (s .ratio) (gridTop s) (s .loads) (up (gridIn s c .q)) (gridIn s c .p) (length c) hr (up-choice (s .ratio) hr s hl c k) a n;
+    }

@@ -13,14 +13,14 @@ use lib.Dec.{T, leb, ltb, eqb, leb→le, le→leb, eqb→eq, eqb-refl}
 use lib.ListN.{length, getD, take, length-append}
 use borrow.Author.Tests.{lt-ltb, ltb-true}
 use lib.Seq.{take-suc, length-take-le}
-use Rattle.model.specs.Lists.{Every, keep, keepIf, product}
+use Rattle.model.specs.Lists.{Every, keep, keepIf}
 use Rattle.model.specs.Book.{Power, Setting, Settings}
 use Rattle.model.specs.Choice.{Choice, choices, plus, worthOf, codeOf}
 use Rattle.model.specs.Grid.{Slot, gridIn, gridsOf}
-use Rattle.model.specs.Trials.{gridTop}
+use Rattle.model.specs.Trials.{gridTop, widthOf, cellCount}
 use Rattle.model.specs.Valid.{SettingKept, SlotsFor, Ready, SettingBelow}
 use Rattle.model.specs.Cells.{Key, beats, join, bestKey, settingGrid, settingGrids, choiceKey, bestWhere, bestAt, joinUpto, rangeAll, hasCell, cellBest, Bounded}
-use Rattle.model.specs.Index.{up, down, widthOf, pairsAt, raisedIn, rowIndex, columnIndex, rowCount, columnCount, indexOf, columnUp, columnDown}
+use Rattle.model.specs.Index.{up, down, raisedIn, rowIndex, columnIndex, rowCount, columnCount, indexOf, columnUp, columnDown}
 use Rattle.model.specs.Bounds.{mostCells, mostRows}
 use Rattle.model.proofs.KeyLaws.{join-none, join-assoc}
 use Rattle.model.proofs.ListLaws.{both, each, bool-same, keep-same, every-imp, every-append, every-at}
@@ -49,17 +49,17 @@ row-plus (s ∷ slots) c v =
 pub digit-plus : (C′ D C U w b′ d b u : ℕ) → C′ + D ≡ C + U → b′ + d ≡ b + u → C′ * w + b′ + (D * w + d) ≡ C * w + b + (U * w + u)
 digit-plus C′ D C U w b′ d b u e f = omega (arith, sym (add-mul C′ D w) ∙ ap (λ n. n * w) e ∙ add-mul C U w)
 
-pub column-plus : (r : ℕ) (slots : List Slot) (c : Choice) (v : Setting) → WithinAll r slots (gridsOf slots c)
-    → WithinAll r slots (plusEach (gridsOf slots c) (settingGrids slots v))
-    → columnIndex r slots (plusEach (gridsOf slots c) (settingGrids slots v)) + columnDown r slots (settingGrids slots v)
-    ≡ columnIndex r slots (gridsOf slots c) + columnUp r slots (settingGrids slots v)
-column-plus r [] c v w w′ = refl
-column-plus r (s ∷ slots) c v w w′ =
+pub column-plus : (slots : List Slot) (c : Choice) (v : Setting) → WithinAll slots (gridsOf slots c)
+    → WithinAll slots (plusEach (gridsOf slots c) (settingGrids slots v))
+    → columnIndex slots (plusEach (gridsOf slots c) (settingGrids slots v)) + columnDown slots (settingGrids slots v)
+    ≡ columnIndex slots (gridsOf slots c) + columnUp slots (settingGrids slots v)
+column-plus [] c v w w′ = refl
+column-plus (s ∷ slots) c v w w′ =
     digit-plus
-    (columnIndex r slots (plusEach (gridsOf slots c) (settingGrids slots v))) (columnDown r slots (settingGrids slots v))
-    (columnIndex r slots (gridsOf slots c)) (columnUp r slots (settingGrids slots v)) (widthOf r s)
-    (raisedIn r s (plus (gridIn s c) (settingGrid s v))) (down (settingGrid s v .q)) (raisedIn r s (gridIn s c)) (up (settingGrid s v .q))
-    (column-plus r slots c v (w .1) (w′ .1))
+    (columnIndex slots (plusEach (gridsOf slots c) (settingGrids slots v))) (columnDown slots (settingGrids slots v))
+    (columnIndex slots (gridsOf slots c)) (columnUp slots (settingGrids slots v)) (widthOf s)
+    (raisedIn s (plus (gridIn s c) (settingGrid s v))) (down (settingGrid s v .q)) (raisedIn s (gridIn s c)) (up (settingGrid s v .q))
+    (column-plus slots c v (w .1) (w′ .1))
     (omega (arith, int-plus (gridIn s c .q) (settingGrid s v .q) .1, w .0 .low, w′ .0 .low))
 
 -- ---- no slot carries exactly where the row covers what was added
@@ -151,16 +151,16 @@ covers-range (s ∷ slots) c v t u = go (split (gridIn s c .p + settingGrid s v 
 
 -- ---- the one cell from which a setting comes to the cell at a row and a column
 
-abbrev pub sourceTest : ℕ → List Slot → Setting → ℕ → ℕ → Bool
-sourceTest r slots v row col =
+abbrev pub sourceTest : List Slot → Setting → ℕ → ℕ → Bool
+sourceTest slots v row col =
     coversAll slots (settingGrids slots v) row
-    && (leb (columnUp r slots (settingGrids slots v)) (col + columnDown r slots (settingGrids slots v))
-    && ltb (col + columnDown r slots (settingGrids slots v) - columnUp r slots (settingGrids slots v)) (columnCount r slots))
+    && (leb (columnUp slots (settingGrids slots v)) (col + columnDown slots (settingGrids slots v))
+    && ltb (col + columnDown slots (settingGrids slots v) - columnUp slots (settingGrids slots v)) (columnCount slots))
 
-abbrev pub sourceCell : ℕ → List Slot → Setting → ℕ → ℕ → ℕ
-sourceCell r slots v row col =
-    (row - rowIndex slots (settingGrids slots v)) * columnCount r slots
-    + (col + columnDown r slots (settingGrids slots v) - columnUp r slots (settingGrids slots v))
+abbrev pub sourceCell : List Slot → Setting → ℕ → ℕ → ℕ
+sourceCell slots v row col =
+    (row - rowIndex slots (settingGrids slots v)) * columnCount slots
+    + (col + columnDown slots (settingGrids slots v) - columnUp slots (settingGrids slots v))
 
 -- a cell has one row and one column
 pub place : {row row′ col col′ : ℕ} (w : ℕ) → col < w → col′ < w → row * w + col ≡ row′ * w + col′ → (row ≡ row′) × (col ≡ col′)
@@ -174,68 +174,68 @@ test-true : (t : Bool) → T t → t ≡ true
 test-true true h = refl
 test-true false h = absurd h
 
-module _ (r : ℕ) (slots : List Slot) (c : Choice) (v : Setting)
-    (w : T (rangeAll slots (gridsOf slots c)) → WithinAll r slots (gridsOf slots c))
-    (w′ : T (rangeAll slots (plusEach (gridsOf slots c) (settingGrids slots v))) → WithinAll r slots (plusEach (gridsOf slots c) (settingGrids slots v)))
-    (row col : ℕ) (l : col < columnCount r slots) where
-  cell-to : T (hasCell r slots (row * columnCount r slots + col) (plusEach (gridsOf slots c) (settingGrids slots v)))
-      → T (sourceTest r slots v row col && hasCell r slots (sourceCell r slots v row col) (gridsOf slots c))
+module _ (slots : List Slot) (c : Choice) (v : Setting)
+    (w : T (rangeAll slots (gridsOf slots c)) → WithinAll slots (gridsOf slots c))
+    (w′ : T (rangeAll slots (plusEach (gridsOf slots c) (settingGrids slots v))) → WithinAll slots (plusEach (gridsOf slots c) (settingGrids slots v)))
+    (row col : ℕ) (l : col < columnCount slots) where
+  cell-to : T (hasCell slots (row * columnCount slots + col) (plusEach (gridsOf slots c) (settingGrids slots v)))
+      → T (sourceTest slots v row col && hasCell slots (sourceCell slots v row col) (gridsOf slots c))
   cell-to t =
-      let W : ℕ = columnCount r slots in
+      let W : ℕ = columnCount slots in
       let g : List Power = gridsOf slots c in
       let x : List Power = settingGrids slots v in
-      let p : T (rangeAll slots (plusEach g x)) × T (eqb (indexOf r slots (plusEach g x)) (row * W + col)) =
-      both (rangeAll slots (plusEach g x)) (eqb (indexOf r slots (plusEach g x)) (row * W + col)) t in
+      let p : T (rangeAll slots (plusEach g x)) × T (eqb (indexOf slots (plusEach g x)) (row * W + col)) =
+      both (rangeAll slots (plusEach g x)) (eqb (indexOf slots (plusEach g x)) (row * W + col)) t in
       let a : T (rangeAll slots g) = range-plus slots g v (p .0) in
-      let q : (rowIndex slots (plusEach g x) ≡ row) × (columnIndex r slots (plusEach g x) ≡ col) =
-      place W (column-below r slots (plusEach g x) (w′ (p .0))) l (eqb→eq (indexOf r slots (plusEach g x)) (row * W + col) (p .1)) in
-      let e : columnIndex r slots (plusEach g x) + columnDown r slots x ≡ columnIndex r slots g + columnUp r slots x = column-plus r slots c v (w a) (w′ (p .0)) in
+      let q : (rowIndex slots (plusEach g x) ≡ row) × (columnIndex slots (plusEach g x) ≡ col) =
+      place W (column-below slots (plusEach g x) (w′ (p .0))) l (eqb→eq (indexOf slots (plusEach g x)) (row * W + col) (p .1)) in
+      let e : columnIndex slots (plusEach g x) + columnDown slots x ≡ columnIndex slots g + columnUp slots x = column-plus slots c v (w a) (w′ (p .0)) in
       let f : rowIndex slots (plusEach g x) ≡ rowIndex slots g + rowIndex slots x = row-plus slots c v in
-      let b : columnIndex r slots g < W = column-below r slots g (w a) in
-      let col-is : columnIndex r slots g ≡ col + columnDown r slots x - columnUp r slots x = omega (arith, q .1) in
+      let b : columnIndex slots g < W = column-below slots g (w a) in
+      let col-is : columnIndex slots g ≡ col + columnDown slots x - columnUp slots x = omega (arith, q .1) in
       let row-is : rowIndex slots g ≡ row - rowIndex slots x = omega (arith, q .0) in
-      each (sourceTest r slots v row col) (hasCell r slots (sourceCell r slots v row col) g)
-      (each (coversAll slots x row) (leb (columnUp r slots x) (col + columnDown r slots x) && ltb (col + columnDown r slots x - columnUp r slots x) W)
+      each (sourceTest slots v row col) (hasCell slots (sourceCell slots v row col) g)
+      (each (coversAll slots x row) (leb (columnUp slots x) (col + columnDown slots x) && ltb (col + columnDown slots x - columnUp slots x) W)
       (subst (λ n. T (coversAll slots x n)) (q .0) (covers-plus slots c v (p .0)))
-      (each (leb (columnUp r slots x) (col + columnDown r slots x)) (ltb (col + columnDown r slots x - columnUp r slots x) W)
-      (le→leb (columnUp r slots x) (col + columnDown r slots x) (omega (arith, q .1)))
-      (less-test (col + columnDown r slots x - columnUp r slots x) W (omega (arith, q .1)))))
-      (each (rangeAll slots g) (eqb (indexOf r slots g) (sourceCell r slots v row col)) a
-      (subst (λ n. T (eqb (indexOf r slots g) n)) (ap₂ (λ m n. m * W + n) row-is col-is) (eqb-refl (indexOf r slots g))))
+      (each (leb (columnUp slots x) (col + columnDown slots x)) (ltb (col + columnDown slots x - columnUp slots x) W)
+      (le→leb (columnUp slots x) (col + columnDown slots x) (omega (arith, q .1)))
+      (less-test (col + columnDown slots x - columnUp slots x) W (omega (arith, q .1)))))
+      (each (rangeAll slots g) (eqb (indexOf slots g) (sourceCell slots v row col)) a
+      (subst (λ n. T (eqb (indexOf slots g) n)) (ap₂ (λ m n. m * W + n) row-is col-is) (eqb-refl (indexOf slots g))))
 
-  cell-from : T (sourceTest r slots v row col && hasCell r slots (sourceCell r slots v row col) (gridsOf slots c))
-      → T (hasCell r slots (row * columnCount r slots + col) (plusEach (gridsOf slots c) (settingGrids slots v)))
+  cell-from : T (sourceTest slots v row col && hasCell slots (sourceCell slots v row col) (gridsOf slots c))
+      → T (hasCell slots (row * columnCount slots + col) (plusEach (gridsOf slots c) (settingGrids slots v)))
   cell-from t =
-      let W : ℕ = columnCount r slots in
+      let W : ℕ = columnCount slots in
       let g : List Power = gridsOf slots c in
       let x : List Power = settingGrids slots v in
-      let p : T (sourceTest r slots v row col) × T (hasCell r slots (sourceCell r slots v row col) g) =
-      both (sourceTest r slots v row col) (hasCell r slots (sourceCell r slots v row col) g) t in
-      let k : T (coversAll slots x row) × T (leb (columnUp r slots x) (col + columnDown r slots x) && ltb (col + columnDown r slots x - columnUp r slots x) W) =
-      both (coversAll slots x row) (leb (columnUp r slots x) (col + columnDown r slots x) && ltb (col + columnDown r slots x - columnUp r slots x) W) (p .0) in
-      let o : T (leb (columnUp r slots x) (col + columnDown r slots x)) × T (ltb (col + columnDown r slots x - columnUp r slots x) W) =
-      both (leb (columnUp r slots x) (col + columnDown r slots x)) (ltb (col + columnDown r slots x - columnUp r slots x) W) (k .1) in
-      let up-in : columnUp r slots x ≤ col + columnDown r slots x = leb→le _ _ (o .0) in
-      let col-in : col + columnDown r slots x - columnUp r slots x < W = ltb-true _ _ (test-true _ (o .1)) in
-      let h : T (rangeAll slots g) × T (eqb (indexOf r slots g) (sourceCell r slots v row col)) =
-      both (rangeAll slots g) (eqb (indexOf r slots g) (sourceCell r slots v row col)) (p .1) in
-      let q : (rowIndex slots g ≡ row - rowIndex slots x) × (columnIndex r slots g ≡ col + columnDown r slots x - columnUp r slots x) =
-      place W (column-below r slots g (w (h .0))) col-in (eqb→eq (indexOf r slots g) (sourceCell r slots v row col) (h .1)) in
+      let p : T (sourceTest slots v row col) × T (hasCell slots (sourceCell slots v row col) g) =
+      both (sourceTest slots v row col) (hasCell slots (sourceCell slots v row col) g) t in
+      let k : T (coversAll slots x row) × T (leb (columnUp slots x) (col + columnDown slots x) && ltb (col + columnDown slots x - columnUp slots x) W) =
+      both (coversAll slots x row) (leb (columnUp slots x) (col + columnDown slots x) && ltb (col + columnDown slots x - columnUp slots x) W) (p .0) in
+      let o : T (leb (columnUp slots x) (col + columnDown slots x)) × T (ltb (col + columnDown slots x - columnUp slots x) W) =
+      both (leb (columnUp slots x) (col + columnDown slots x)) (ltb (col + columnDown slots x - columnUp slots x) W) (k .1) in
+      let up-in : columnUp slots x ≤ col + columnDown slots x = leb→le _ _ (o .0) in
+      let col-in : col + columnDown slots x - columnUp slots x < W = ltb-true _ _ (test-true _ (o .1)) in
+      let h : T (rangeAll slots g) × T (eqb (indexOf slots g) (sourceCell slots v row col)) =
+      both (rangeAll slots g) (eqb (indexOf slots g) (sourceCell slots v row col)) (p .1) in
+      let q : (rowIndex slots g ≡ row - rowIndex slots x) × (columnIndex slots g ≡ col + columnDown slots x - columnUp slots x) =
+      place W (column-below slots g (w (h .0))) col-in (eqb→eq (indexOf slots g) (sourceCell slots v row col) (h .1)) in
       let back : rowIndex slots x ≤ row = covers-le slots v row (k .0) in
       let sum : row ≡ rowIndex slots g + rowIndex slots x = omega (arith, q .0) in
       let a : T (rangeAll slots (plusEach g x)) = covers-range slots c v (h .0) (subst (λ n. T (coversAll slots x n)) sum (k .0)) in
-      let e : columnIndex r slots (plusEach g x) + columnDown r slots x ≡ columnIndex r slots g + columnUp r slots x = column-plus r slots c v (w (h .0)) (w′ a) in
+      let e : columnIndex slots (plusEach g x) + columnDown slots x ≡ columnIndex slots g + columnUp slots x = column-plus slots c v (w (h .0)) (w′ a) in
       let f : rowIndex slots (plusEach g x) ≡ rowIndex slots g + rowIndex slots x = row-plus slots c v in
       let row-is : rowIndex slots (plusEach g x) ≡ row = omega (arith, q .0) in
-      let col-is : columnIndex r slots (plusEach g x) ≡ col = omega (arith, q .1) in
-      each (rangeAll slots (plusEach g x)) (eqb (indexOf r slots (plusEach g x)) (row * W + col)) a
-      (subst (λ n. T (eqb (indexOf r slots (plusEach g x)) n)) (ap₂ (λ m n. m * W + n) row-is col-is) (eqb-refl (indexOf r slots (plusEach g x))))
+      let col-is : columnIndex slots (plusEach g x) ≡ col = omega (arith, q .1) in
+      each (rangeAll slots (plusEach g x)) (eqb (indexOf slots (plusEach g x)) (row * W + col)) a
+      (subst (λ n. T (eqb (indexOf slots (plusEach g x)) n)) (ap₂ (λ m n. m * W + n) row-is col-is) (eqb-refl (indexOf slots (plusEach g x))))
 
-  pub cell-source : hasCell r slots (row * columnCount r slots + col) (plusEach (gridsOf slots c) (settingGrids slots v))
-      ≡ (sourceTest r slots v row col && hasCell r slots (sourceCell r slots v row col) (gridsOf slots c))
+  pub cell-source : hasCell slots (row * columnCount slots + col) (plusEach (gridsOf slots c) (settingGrids slots v))
+      ≡ (sourceTest slots v row col && hasCell slots (sourceCell slots v row col) (gridsOf slots c))
   cell-source =
-      bool-same (hasCell r slots (row * columnCount r slots + col) (plusEach (gridsOf slots c) (settingGrids slots v)))
-      (sourceTest r slots v row col && hasCell r slots (sourceCell r slots v row col) (gridsOf slots c)) cell-to cell-from
+      bool-same (hasCell slots (row * columnCount slots + col) (plusEach (gridsOf slots c) (settingGrids slots v)))
+      (sourceTest slots v row col && hasCell slots (sourceCell slots v row col) (gridsOf slots c)) cell-to cell-from
 
 -- ---- one load more, cell by cell
 
@@ -247,53 +247,53 @@ length-last : (c : Choice) (v : Setting) → length (snoc v c) ≡ length c + 1
 length-last c v = length-append c (v ∷ [])
 
 -- what a setting brings to a cell: the best at the one cell from which it comes
-source-best : (r n : ℕ) (slots : List Slot) (loads : List Settings) (v : Setting) → Ready r n slots loads → length loads + 1 ≤ n → SettingKept (suc r) v
-    → (row col : ℕ) → col < columnCount (suc r) slots
-    → bestAt slots (λ g. hasCell (suc r) slots (row * columnCount (suc r) slots + col) (plusEach g (settingGrids slots v))) loads
-    ≡ cond (sourceTest (suc r) slots v row col) (cellBest (suc r) slots loads (sourceCell (suc r) slots v row col)) none
+source-best : (r n : ℕ) (slots : List Slot) (loads : List Settings) (v : Setting) → Ready r n slots loads → length loads + 1 ≤ n → SettingKept r v
+    → (row col : ℕ) → col < columnCount slots
+    → bestAt slots (λ g. hasCell slots (row * columnCount slots + col) (plusEach g (settingGrids slots v))) loads
+    ≡ cond (sourceTest slots v row col) (cellBest slots loads (sourceCell slots v row col)) none
 unfolding bestAt
 source-best r n slots loads v h few keeps row col l =
     ap (λ cs. bestKey (map choiceKey cs))
     (keep-same
-    (λ c. hasCell (suc r) slots (row * columnCount (suc r) slots + col) (plusEach (gridsOf slots c) (settingGrids slots v)))
-    (λ c. sourceTest (suc r) slots v row col && hasCell (suc r) slots (sourceCell (suc r) slots v row col) (gridsOf slots c))
+    (λ c. hasCell slots (row * columnCount slots + col) (plusEach (gridsOf slots c) (settingGrids slots v)))
+    (λ c. sourceTest slots v row col && hasCell slots (sourceCell slots v row col) (gridsOf slots c))
     (choices loads)
-    (each-choice (SettingKept (suc r))
-    (λ c. hasCell (suc r) slots (row * columnCount (suc r) slots + col) (plusEach (gridsOf slots c) (settingGrids slots v))
-    ≡ (sourceTest (suc r) slots v row col && hasCell (suc r) slots (sourceCell (suc r) slots v row col) (gridsOf slots c)))
+    (each-choice (SettingKept r)
+    (λ c. hasCell slots (row * columnCount slots + col) (plusEach (gridsOf slots c) (settingGrids slots v))
+    ≡ (sourceTest slots v row col && hasCell slots (sourceCell slots v row col) (gridsOf slots c)))
     loads at (h .keeps)))
-    ∙ where-test (sourceTest (suc r) slots v row col) (λ c. hasCell (suc r) slots (sourceCell (suc r) slots v row col) (gridsOf slots c)) (choices loads)
+    ∙ where-test (sourceTest slots v row col) (λ c. hasCell slots (sourceCell slots v row col) (gridsOf slots c)) (choices loads)
   where
-    at : (c : Choice) → length c ≡ length loads → Every (SettingKept (suc r)) c
-        → hasCell (suc r) slots (row * columnCount (suc r) slots + col) (plusEach (gridsOf slots c) (settingGrids slots v))
-        ≡ (sourceTest (suc r) slots v row col && hasCell (suc r) slots (sourceCell (suc r) slots v row col) (gridsOf slots c))
+    at : (c : Choice) → length c ≡ length loads → Every (SettingKept r) c
+        → hasCell slots (row * columnCount slots + col) (plusEach (gridsOf slots c) (settingGrids slots v))
+        ≡ (sourceTest slots v row col && hasCell slots (sourceCell slots v row col) (gridsOf slots c))
     at c e q =
-        cell-source (suc r) slots c v
-        (within-all r n slots (h .for) c (omega arith) q)
-        (subst (λ g. T (rangeAll slots g) → WithinAll (suc r) slots g) (grids-last slots c v)
-        (within-all r n slots (h .for) (snoc v c) (omega (arith, length-last c v)) (every-append (SettingKept (suc r)) c (v ∷ []) q (keeps, tt))))
+        cell-source slots c v
+        (within-all r n (h .some-ratio) slots (h .for) c (omega arith) q)
+        (subst (λ g. T (rangeAll slots g) → WithinAll slots g) (grids-last slots c v)
+        (within-all r n (h .some-ratio) slots (h .for) (snoc v c) (omega (arith, length-last c v)) (every-append (SettingKept r) c (v ∷ []) q (keeps, tt))))
         row col l
 
 -- LOAD k + 1, BY ROWS: each cell is the best, over the load's settings, of the one cell from which the setting comes
 pub rows-step : (r n : ℕ) (slots : List Slot) (loads : List Settings) → Ready r n slots loads → (k : ℕ) → k < length loads
-    → (row col : ℕ) → col < columnCount (suc r) slots
-    → cellBest (suc r) slots (take (suc k) loads) (row * columnCount (suc r) slots + col)
-    ≡ bestOver k (λ v. cond (sourceTest (suc r) slots v row col) (cellBest (suc r) slots (take k loads) (sourceCell (suc r) slots v row col)) none) (getD loads k [])
+    → (row col : ℕ) → col < columnCount slots
+    → cellBest slots (take (suc k) loads) (row * columnCount slots + col)
+    ≡ bestOver k (λ v. cond (sourceTest slots v row col) (cellBest slots (take k loads) (sourceCell slots v row col)) none) (getD loads k [])
 rows-step r n slots loads h k l row col m =
-    ap (λ ls. cellBest (suc r) slots ls (row * columnCount (suc r) slots + col)) (take-suc loads k [] l)
-    ∙ best-at-last slots (hasCell (suc r) slots (row * columnCount (suc r) slots + col)) (take k loads) (getD loads k [])
+    ap (λ ls. cellBest slots ls (row * columnCount slots + col)) (take-suc loads k [] l)
+    ∙ best-at-last slots (hasCell slots (row * columnCount slots + col)) (take k loads) (getD loads k [])
     ∙ ap (λ n. bestOver n
-    (λ v. bestAt slots (λ g. hasCell (suc r) slots (row * columnCount (suc r) slots + col) (plusEach g (settingGrids slots v))) (take k loads)) (getD loads k []))
+    (λ v. bestAt slots (λ g. hasCell slots (row * columnCount slots + col) (plusEach g (settingGrids slots v))) (take k loads)) (getD loads k []))
     (length-take-le k loads (omega arith))
     ∙ over-same k
-    (λ v. bestAt slots (λ g. hasCell (suc r) slots (row * columnCount (suc r) slots + col) (plusEach g (settingGrids slots v))) (take k loads))
-    (λ v. cond (sourceTest (suc r) slots v row col) (cellBest (suc r) slots (take k loads) (sourceCell (suc r) slots v row col)) none)
+    (λ v. bestAt slots (λ g. hasCell slots (row * columnCount slots + col) (plusEach g (settingGrids slots v))) (take k loads))
+    (λ v. cond (sourceTest slots v row col) (cellBest slots (take k loads) (sourceCell slots v row col)) none)
     (getD loads k [])
-    (every-imp (SettingKept (suc r))
-    (λ v. bestAt slots (λ g. hasCell (suc r) slots (row * columnCount (suc r) slots + col) (plusEach g (settingGrids slots v))) (take k loads)
-    ≡ cond (sourceTest (suc r) slots v row col) (cellBest (suc r) slots (take k loads) (sourceCell (suc r) slots v row col)) none)
+    (every-imp (SettingKept r)
+    (λ v. bestAt slots (λ g. hasCell slots (row * columnCount slots + col) (plusEach g (settingGrids slots v))) (take k loads)
+    ≡ cond (sourceTest slots v row col) (cellBest slots (take k loads) (sourceCell slots v row col)) none)
     (λ v q. source-best r n slots (take k loads) v (ready-take r n slots loads k h) (omega (arith, length-take-le k loads (omega arith), h .few)) q row col m)
-    (getD loads k []) (every-at (Every (SettingKept (suc r))) loads [] (h .keeps) k l))
+    (getD loads k []) (every-at (Every (SettingKept r)) loads [] (h .keeps) k l))
 
 -- the best over settings as the best of their places
 upto-shift : (n : ℕ) (f : ℕ → Option Key) → joinUpto (suc n) f ≡ join (f 0) (joinUpto n (λ i. f (suc i)))
@@ -333,33 +333,35 @@ bounded-where w c p (d ∷ cs) h = go (p d) (bounded-where w c p cs (h .1))
     go true ih = join-bounded w c (choiceKey d) (bestWhere p cs) (h .0) ih
     go false ih = ih
 
-pub cell-bounded : (top r : ℕ) (slots : List Slot) (loads : List Settings) → Every (Every (SettingBelow top)) loads → (i : ℕ)
-    → Bounded (top * length loads) (4 ^ length loads) (cellBest r slots loads i)
+pub cell-bounded : (top : ℕ) (slots : List Slot) (loads : List Settings) → Every (Every (SettingBelow top)) loads → (i : ℕ)
+    → Bounded (top * length loads) (4 ^ length loads) (cellBest slots loads i)
 unfolding bestAt
-cell-bounded top r slots loads h i =
-    bounded-where (top * length loads) (4 ^ length loads) (λ c. hasCell r slots i (gridsOf slots c)) (choices loads)
+cell-bounded top slots loads h i =
+    bounded-where (top * length loads) (4 ^ length loads) (λ c. hasCell slots i (gridsOf slots c)) (choices loads)
     (each-choice (SettingBelow top) (λ d. (worthOf d ≤ top * length loads) × (codeOf d < 4 ^ length loads)) loads
     (λ c e q. (subst (λ n. worthOf c ≤ top * n) e (choice-worth top c q), subst (λ n. codeOf c < 4 ^ n) e (choice-code top c q)))
     h)
 
 -- ---- few rows: at most half as many as columns, and so within their bound (specs/Bounds, `mostRows`)
 
-wide : (r a l : ℕ) → 0 < l → 2 * (a + 1) ≤ 2 * suc r * a + (2 * suc r - 1) * l + 1
-wide r a l h =
-    let one : 1 ≤ suc r = omega arith in
-    let odd : 1 ≤ 2 * suc r - 1 = omega arith in
+wide : (r a l : ℕ) → 0 < r → 0 < l → 2 * (a + 1) ≤ 2 * r * a + (2 * r - 1) * l + 1
+wide r a l one h =
+    let odd : 1 ≤ 2 * r - 1 = omega arith in
     omega (arith, mul-le-mul-right a one, mul-le-mul odd h)
 
-rows-columns : (r n : ℕ) (slots : List Slot) → SlotsFor n slots → 0 < n → rowCount slots ≤ columnCount (suc r) slots
-rows-columns r n [] z h = omega arith
-rows-columns r n (s ∷ slots) z h =
-    let k : gridTop s + 1 ≤ widthOf (suc r) s = omega (arith, wide r (gridTop s) (s .loads) (omega (arith, z .0 .1))) in
-    mul-le-mul (rows-columns r n slots (z .1) h) k
+module _ (r n : ℕ) (hr : 0 < r) (hn : 0 < n) where
+  wide-slot : (s : Slot) → s .loads ≡ n → s .ratio ≡ r → 2 * (gridTop s + 1) ≤ widthOf s
+  wide-slot s e f = wide (s .ratio) (gridTop s) (s .loads) (omega arith) (omega arith)
 
-rows-half : (r n : ℕ) (slots : List Slot) → SlotsFor n slots → 0 < n → 0 < length slots → 2 * rowCount slots ≤ columnCount (suc r) slots
-rows-half r n [] z h l = absurd (omega arith)
-rows-half r n (s ∷ slots) z h l =
-    omega (arith, mul-le-mul (rows-columns r n slots (z .1) h) (wide r (gridTop s) (s .loads) (omega (arith, z .0 .1))))
+  rows-columns : (slots : List Slot) → SlotsFor r n slots → rowCount slots ≤ columnCount slots
+  rows-columns [] z = omega arith
+  rows-columns (s ∷ slots) z =
+      let k : gridTop s + 1 ≤ widthOf s = omega (arith, wide-slot s (z .0 .1) (z .0 .2)) in
+      mul-le-mul (rows-columns slots (z .1)) k
+
+  rows-half : (slots : List Slot) → SlotsFor r n slots → 0 < length slots → 2 * rowCount slots ≤ columnCount slots
+  rows-half [] z l = absurd (omega arith)
+  rows-half (s ∷ slots) z l = omega (arith, mul-le-mul (rows-columns slots (z .1)) (wide-slot s (z .0 .1) (z .0 .2)))
 
 few-rows : (a b : ℕ) → 2 * a ≤ b → a * b ≤ mostCells → a ≤ mostRows
 few-rows a b h k =
@@ -368,5 +370,5 @@ few-rows a b h k =
     (λ (l : a ≤ mostRows). l)
     (split mostRows a)
 
-pub rows-few : (r n : ℕ) (slots : List Slot) → SlotsFor n slots → 0 < n → 0 < length slots → product (map (pairsAt (suc r)) slots) ≤ mostCells → rowCount slots ≤ mostRows
-rows-few r n slots z h l k = few-rows (rowCount slots) (columnCount (suc r) slots) (rows-half r n slots z h l) (omega (arith, cells-area (suc r) slots))
+pub rows-few : (r n : ℕ) → 0 < r → 0 < n → (slots : List Slot) → SlotsFor r n slots → 0 < length slots → cellCount slots ≤ mostCells → rowCount slots ≤ mostRows
+rows-few r n hr hn slots z l k = few-rows (rowCount slots) (columnCount slots) (rows-half r n hr hn slots z l) (omega (arith, cells-area slots))

@@ -4,7 +4,7 @@ use mathlib.Core.Path.{_≡_, refl, sym, ap, ap₂, _∙_, subst, fun-ext}
 use mathlib.Core.Bool.{Bool, true, false, cond, _&&_, _||_}
 use mathlib.Core.List.{List, [], _∷_, map}
 use mathlib.Core.Option.{none}
-use Prim.Native.Nat.{ℕ, suc, _+_, _<_, _≤_, _/_}
+use Prim.Native.Nat.{ℕ, _+_, _<_, _≤_, _/_}
 use native.Mathlib.Nat.{le-trans, le-add-right}
 use native.Mathlib.Omega.{arith}
 use lib.Dec.{T, leb, leb→le, le→leb, eqb, eqb→eq}
@@ -13,10 +13,10 @@ use Rattle.model.specs.Lists.{Every, keep, keepIf, any, sameLists}
 use Rattle.model.specs.Book.{Power, Setting, Settings}
 use Rattle.model.specs.Choice.{Choice, choices, withEach, powerIn}
 use Rattle.model.specs.Grid.{Slot, gridIn, gridsOf, admits, bestAdmitted}
-use Rattle.model.specs.Trials.{gridTop, samePair, inRange, reachedCount}
+use Rattle.model.specs.Trials.{gridTop, cellCount, samePair, inRange, reachedCount}
 use Rattle.model.specs.Valid.{SettingKept, SlotsFor, Ready}
 use Rattle.model.specs.Cells.{bestKey, settingGrids, choiceKey, bestWhere, bestAt, admitsAll, joinUpto, isSome, countUpto, rangeAll, hasCell, cellBest}
-use Rattle.model.specs.Index.{indexOf, cellCount}
+use Rattle.model.specs.Index.{indexOf}
 use Rattle.model.proofs.ListLaws.{both, each, bool-same, every-imp, every-append, every-map, every-keep, keep-same}
 use Rattle.model.proofs.ChoiceLaws.{Sized, choices-sized, plusEach}
 use Rattle.model.proofs.RecurrenceLaws.{key?, plan-key}
@@ -58,12 +58,12 @@ pub range-grids : (slots : List Slot) (c : Choice) → inRange slots c ≡ range
 range-grids [] c = refl
 range-grids (s ∷ slots) c = ap (λ t. leb (gridIn s c .p) (gridTop s) && t) (range-grids slots c)
 
-pub within-all : (r n : ℕ) (slots : List Slot) → SlotsFor n slots → (c : Choice) → length c ≤ n → Every (SettingKept (suc r)) c
-    → T (rangeAll slots (gridsOf slots c)) → WithinAll (suc r) slots (gridsOf slots c)
-within-all r n [] z c l k t = tt
-within-all r n (s ∷ slots) z c l k t = (
-  within-choice r s c (z .0 .0) (omega (arith, l, z .0 .1)) (kept (suc r) (s .place) c k) (leb→le _ _ (parts .0)),
-  within-all r n slots (z .1) c l k (parts .1),
+pub within-all : (r n : ℕ) → 0 < r → (slots : List Slot) → SlotsFor r n slots → (c : Choice) → length c ≤ n → Every (SettingKept r) c
+    → T (rangeAll slots (gridsOf slots c)) → WithinAll slots (gridsOf slots c)
+within-all r n hr [] z c l k t = tt
+within-all r n hr (s ∷ slots) z c l k t = (
+  within-choice s c (z .0 .0) (omega (arith, z .0 .2)) (omega (arith, l, z .0 .1)) (kept (s .ratio) (s .place) c (subst (λ x. Every (SettingKept x) c) (sym (z .0 .2)) k)) (leb→le _ _ (parts .0)),
+  within-all r n hr slots (z .1) c l k (parts .1),
 )
   where
     parts : T (leb (gridIn s c .p) (gridTop s)) × T (rangeAll slots (gridsOf slots c))
@@ -71,48 +71,48 @@ within-all r n (s ∷ slots) z c l k t = (
 
 -- all choices whose pairs are in range have a cell
 pub choices-within : (r n : ℕ) (slots : List Slot) (loads : List Settings) → Ready r n slots loads
-    → Every (λ c. T (rangeAll slots (gridsOf slots c)) → WithinAll (suc r) slots (gridsOf slots c)) (choices loads)
+    → Every (λ c. T (rangeAll slots (gridsOf slots c)) → WithinAll slots (gridsOf slots c)) (choices loads)
 choices-within r n slots loads h =
-    each-choice (SettingKept (suc r)) (λ c. T (rangeAll slots (gridsOf slots c)) → WithinAll (suc r) slots (gridsOf slots c)) loads
-    (λ c e k. within-all r n slots (h .for) c (omega (arith, h .few)) k)
+    each-choice (SettingKept r) (λ c. T (rangeAll slots (gridsOf slots c)) → WithinAll slots (gridsOf slots c)) loads
+    (λ c e k. within-all r n (h .some-ratio) slots (h .for) c (omega (arith, h .few)) k)
     (h .keeps)
 
 -- ---- H is the number of cells that hold something
 
-kept-within : (r : ℕ) (slots : List Slot) (cs : List Choice)
-    → Every (λ c. T (rangeAll slots (gridsOf slots c)) → WithinAll r slots (gridsOf slots c)) cs
-    → Every (WithinAll r slots) (map (gridsOf slots) (keep (inRange slots) cs))
-kept-within r slots cs h =
-    every-map (WithinAll r slots) (gridsOf slots) (keep (inRange slots) cs)
+kept-within : (slots : List Slot) (cs : List Choice)
+    → Every (λ c. T (rangeAll slots (gridsOf slots c)) → WithinAll slots (gridsOf slots c)) cs
+    → Every (WithinAll slots) (map (gridsOf slots) (keep (inRange slots) cs))
+kept-within slots cs h =
+    every-map (WithinAll slots) (gridsOf slots) (keep (inRange slots) cs)
     (every-imp
-    (λ c. (T (rangeAll slots (gridsOf slots c)) → WithinAll r slots (gridsOf slots c)) × T (inRange slots c))
-    (λ c. WithinAll r slots (gridsOf slots c))
+    (λ c. (T (rangeAll slots (gridsOf slots c)) → WithinAll slots (gridsOf slots c)) × T (inRange slots c))
+    (λ c. WithinAll slots (gridsOf slots c))
     (λ c k. k .0 (subst T (range-grids slots c) (k .1)))
     (keep (inRange slots) cs)
-    (every-keep (λ c. T (rangeAll slots (gridsOf slots c)) → WithinAll r slots (gridsOf slots c)) (inRange slots) cs h))
+    (every-keep (λ c. T (rangeAll slots (gridsOf slots c)) → WithinAll slots (gridsOf slots c)) (inRange slots) cs h))
 
-any-kept : (r : ℕ) (slots : List Slot) (i : ℕ) (cs : List Choice)
-    → any (λ g. eqb (indexOf r slots g) i) (map (gridsOf slots) (keep (inRange slots) cs)) ≡ any (λ c. hasCell r slots i (gridsOf slots c)) cs
-any-kept r slots i [] = refl
-any-kept r slots i (c ∷ cs) = go (inRange slots c) (range-grids slots c) (any-kept r slots i cs)
+any-kept : (slots : List Slot) (i : ℕ) (cs : List Choice)
+    → any (λ g. eqb (indexOf slots g) i) (map (gridsOf slots) (keep (inRange slots) cs)) ≡ any (λ c. hasCell slots i (gridsOf slots c)) cs
+any-kept slots i [] = refl
+any-kept slots i (c ∷ cs) = go (inRange slots c) (range-grids slots c) (any-kept slots i cs)
   where
     go : (t : Bool) → t ≡ rangeAll slots (gridsOf slots c)
-        → any (λ g. eqb (indexOf r slots g) i) (map (gridsOf slots) (keep (inRange slots) cs)) ≡ any (λ d. hasCell r slots i (gridsOf slots d)) cs
-        → any (λ g. eqb (indexOf r slots g) i) (map (gridsOf slots) (keepIf t c (keep (inRange slots) cs)))
-        ≡ (hasCell r slots i (gridsOf slots c) || any (λ d. hasCell r slots i (gridsOf slots d)) cs)
-    go true e ih = ap₂ _||_ (ap (λ t. t && eqb (indexOf r slots (gridsOf slots c)) i) e) ih
-    go false e ih = ap₂ _||_ (ap (λ t. t && eqb (indexOf r slots (gridsOf slots c)) i) e) ih
+        → any (λ g. eqb (indexOf slots g) i) (map (gridsOf slots) (keep (inRange slots) cs)) ≡ any (λ d. hasCell slots i (gridsOf slots d)) cs
+        → any (λ g. eqb (indexOf slots g) i) (map (gridsOf slots) (keepIf t c (keep (inRange slots) cs)))
+        ≡ (hasCell slots i (gridsOf slots c) || any (λ d. hasCell slots i (gridsOf slots d)) cs)
+    go true e ih = ap₂ _||_ (ap (λ t. t && eqb (indexOf slots (gridsOf slots c)) i) e) ih
+    go false e ih = ap₂ _||_ (ap (λ t. t && eqb (indexOf slots (gridsOf slots c)) i) e) ih
 
 pub reached-cells : (r n : ℕ) (slots : List Slot) (loads : List Settings) → Ready r n slots loads
-    → reachedCount slots loads ≡ countUpto (cellCount (suc r) slots) (λ i. isSome (cellBest (suc r) slots loads i))
+    → reachedCount slots loads ≡ countUpto (cellCount slots) (λ i. isSome (cellBest slots loads i))
 unfolding bestAt reachedCount
 reached-cells r n slots loads h =
-    distinct-count (WithinAll (suc r) slots) (sameLists samePair) (indexOf (suc r) slots) (cellCount (suc r) slots)
-    (index-below (suc r) slots) (index-apart (suc r) slots)
+    distinct-count (WithinAll slots) (sameLists samePair) (indexOf slots) (cellCount slots)
+    (index-below slots) (index-apart slots)
     (map (gridsOf slots) (keep (inRange slots) (choices loads)))
-    (kept-within (suc r) slots (choices loads) (choices-within r n slots loads h))
-    ∙ ap (countUpto (cellCount (suc r) slots))
-    (fun-ext (λ i. any-kept (suc r) slots i (choices loads) ∙ sym (some-any (λ c. hasCell (suc r) slots i (gridsOf slots c)) (choices loads))))
+    (kept-within slots (choices loads) (choices-within r n slots loads h))
+    ∙ ap (countUpto (cellCount slots))
+    (fun-ext (λ i. any-kept slots i (choices loads) ∙ sym (some-any (λ c. hasCell slots i (gridsOf slots c)) (choices loads))))
 
 -- ---- the best at a test, from the cells
 
@@ -125,60 +125,60 @@ where-test true q cs = refl
 where-test false q cs = where-none cs
 
 -- at a list of pairs g, "G, and its cell is i" is "G at cell i's list, and i is its cell"
-cell-test : (r : ℕ) (slots : List Slot) (G : List Power → Bool) → ((g : List Power) → T (G g) → T (rangeAll slots g))
-    → (i : ℕ) (g : List Power) → (T (rangeAll slots g) → WithinAll r slots g)
-    → (G g && eqb (indexOf r slots g) i) ≡ (G (gridAt r slots i) && hasCell r slots i g)
-cell-test r slots G f i g w =
-    bool-same (G g && eqb (indexOf r slots g) i) (G (gridAt r slots i) && hasCell r slots i g) to from
+cell-test : (slots : List Slot) (G : List Power → Bool) → ((g : List Power) → T (G g) → T (rangeAll slots g))
+    → (i : ℕ) (g : List Power) → (T (rangeAll slots g) → WithinAll slots g)
+    → (G g && eqb (indexOf slots g) i) ≡ (G (gridAt slots i) && hasCell slots i g)
+cell-test slots G f i g w =
+    bool-same (G g && eqb (indexOf slots g) i) (G (gridAt slots i) && hasCell slots i g) to from
   where
-    at : T (rangeAll slots g) → T (eqb (indexOf r slots g) i) → g ≡ gridAt r slots i
-    at a b = sym (grid-back r slots g (w a)) ∙ ap (gridAt r slots) (eqb→eq (indexOf r slots g) i b)
+    at : T (rangeAll slots g) → T (eqb (indexOf slots g) i) → g ≡ gridAt slots i
+    at a b = sym (grid-back slots g (w a)) ∙ ap (gridAt slots) (eqb→eq (indexOf slots g) i b)
 
-    to : T (G g && eqb (indexOf r slots g) i) → T (G (gridAt r slots i) && hasCell r slots i g)
+    to : T (G g && eqb (indexOf slots g) i) → T (G (gridAt slots i) && hasCell slots i g)
     to t =
-        let p : T (G g) × T (eqb (indexOf r slots g) i) = both (G g) (eqb (indexOf r slots g) i) t in
-        each (G (gridAt r slots i)) (hasCell r slots i g)
+        let p : T (G g) × T (eqb (indexOf slots g) i) = both (G g) (eqb (indexOf slots g) i) t in
+        each (G (gridAt slots i)) (hasCell slots i g)
         (subst (λ z. T (G z)) (at (f g (p .0)) (p .1)) (p .0))
-        (each (rangeAll slots g) (eqb (indexOf r slots g) i) (f g (p .0)) (p .1))
+        (each (rangeAll slots g) (eqb (indexOf slots g) i) (f g (p .0)) (p .1))
 
-    from : T (G (gridAt r slots i) && hasCell r slots i g) → T (G g && eqb (indexOf r slots g) i)
+    from : T (G (gridAt slots i) && hasCell slots i g) → T (G g && eqb (indexOf slots g) i)
     from t =
-        let p : T (G (gridAt r slots i)) × T (hasCell r slots i g) = both (G (gridAt r slots i)) (hasCell r slots i g) t in
-        let q : T (rangeAll slots g) × T (eqb (indexOf r slots g) i) = both (rangeAll slots g) (eqb (indexOf r slots g) i) (p .1) in
-        each (G g) (eqb (indexOf r slots g) i) (subst (λ z. T (G z)) (sym (at (q .0) (q .1))) (p .0)) (q .1)
+        let p : T (G (gridAt slots i)) × T (hasCell slots i g) = both (G (gridAt slots i)) (hasCell slots i g) t in
+        let q : T (rangeAll slots g) × T (eqb (indexOf slots g) i) = both (rangeAll slots g) (eqb (indexOf slots g) i) (p .1) in
+        each (G g) (eqb (indexOf slots g) i) (subst (λ z. T (G z)) (sym (at (q .0) (q .1))) (p .0)) (q .1)
 
 -- for a test that holds only in range, the best at it is the best of the cells whose list passes it
 pub best-cells : (r n : ℕ) (slots : List Slot) (loads : List Settings) → Ready r n slots loads
     → (G : List Power → Bool) → ((g : List Power) → T (G g) → T (rangeAll slots g))
     → bestAt slots G loads
-    ≡ joinUpto (cellCount (suc r) slots) (λ i. cond (G (gridAt (suc r) slots i)) (cellBest (suc r) slots loads i) none)
+    ≡ joinUpto (cellCount slots) (λ i. cond (G (gridAt slots i)) (cellBest slots loads i) none)
 unfolding bestAt
 best-cells r n slots loads h G f =
-    best-by-cell (cellCount (suc r) slots) (λ c. G (gridsOf slots c)) (λ c. indexOf (suc r) slots (gridsOf slots c)) (choices loads)
+    best-by-cell (cellCount slots) (λ c. G (gridsOf slots c)) (λ c. indexOf slots (gridsOf slots c)) (choices loads)
     (every-imp
-    (λ c. T (rangeAll slots (gridsOf slots c)) → WithinAll (suc r) slots (gridsOf slots c))
-    (λ c. T (G (gridsOf slots c)) → indexOf (suc r) slots (gridsOf slots c) < cellCount (suc r) slots)
-    (λ c w t. index-below (suc r) slots (gridsOf slots c) (w (f (gridsOf slots c) t)))
+    (λ c. T (rangeAll slots (gridsOf slots c)) → WithinAll slots (gridsOf slots c))
+    (λ c. T (G (gridsOf slots c)) → indexOf slots (gridsOf slots c) < cellCount slots)
+    (λ c w t. index-below slots (gridsOf slots c) (w (f (gridsOf slots c) t)))
     (choices loads) within)
-    ∙ ap (joinUpto (cellCount (suc r) slots)) (fun-ext at)
+    ∙ ap (joinUpto (cellCount slots)) (fun-ext at)
   where
-    within : Every (λ c. T (rangeAll slots (gridsOf slots c)) → WithinAll (suc r) slots (gridsOf slots c)) (choices loads)
+    within : Every (λ c. T (rangeAll slots (gridsOf slots c)) → WithinAll slots (gridsOf slots c)) (choices loads)
     within = choices-within r n slots loads h
 
-    at : (i : ℕ) → bestWhere (λ c. G (gridsOf slots c) && eqb (indexOf (suc r) slots (gridsOf slots c)) i) (choices loads)
-        ≡ cond (G (gridAt (suc r) slots i)) (bestWhere (λ c. hasCell (suc r) slots i (gridsOf slots c)) (choices loads)) none
+    at : (i : ℕ) → bestWhere (λ c. G (gridsOf slots c) && eqb (indexOf slots (gridsOf slots c)) i) (choices loads)
+        ≡ cond (G (gridAt slots i)) (bestWhere (λ c. hasCell slots i (gridsOf slots c)) (choices loads)) none
     at i =
         ap (λ cs. bestKey (map choiceKey cs))
         (keep-same
-        (λ c. G (gridsOf slots c) && eqb (indexOf (suc r) slots (gridsOf slots c)) i)
-        (λ c. G (gridAt (suc r) slots i) && hasCell (suc r) slots i (gridsOf slots c))
+        (λ c. G (gridsOf slots c) && eqb (indexOf slots (gridsOf slots c)) i)
+        (λ c. G (gridAt slots i) && hasCell slots i (gridsOf slots c))
         (choices loads)
         (every-imp
-        (λ c. T (rangeAll slots (gridsOf slots c)) → WithinAll (suc r) slots (gridsOf slots c))
-        (λ c. (G (gridsOf slots c) && eqb (indexOf (suc r) slots (gridsOf slots c)) i) ≡ (G (gridAt (suc r) slots i) && hasCell (suc r) slots i (gridsOf slots c)))
-        (λ c w. cell-test (suc r) slots G f i (gridsOf slots c) w)
+        (λ c. T (rangeAll slots (gridsOf slots c)) → WithinAll slots (gridsOf slots c))
+        (λ c. (G (gridsOf slots c) && eqb (indexOf slots (gridsOf slots c)) i) ≡ (G (gridAt slots i) && hasCell slots i (gridsOf slots c)))
+        (λ c w. cell-test slots G f i (gridsOf slots c) w)
         (choices loads) within))
-        ∙ where-test (G (gridAt (suc r) slots i)) (λ c. hasCell (suc r) slots i (gridsOf slots c)) (choices loads)
+        ∙ where-test (G (gridAt slots i)) (λ c. hasCell slots i (gridsOf slots c)) (choices loads)
 
 -- ---- one more setting
 
@@ -195,15 +195,15 @@ range-plus (s ∷ slots) (x ∷ g) v t =
 
 -- ---- the plan, from the cells
 
-range-admits : (n : ℕ) (slots : List Slot) → SlotsFor n slots → (g : List Power) → T (admitsAll slots g) → T (rangeAll slots g)
-range-admits n [] z g t = tt
-range-admits n (s ∷ slots) z [] t = tt
-range-admits n (s ∷ slots) z (x ∷ g) t =
+range-admits : (r n : ℕ) (slots : List Slot) → SlotsFor r n slots → (g : List Power) → T (admitsAll slots g) → T (rangeAll slots g)
+range-admits r n [] z g t = tt
+range-admits r n (s ∷ slots) z [] t = tt
+range-admits r n (s ∷ slots) z (x ∷ g) t =
     each (leb (x .p) (gridTop s)) (rangeAll slots g)
     (le→leb (x .p) (gridTop s) (admits-range s x (z .0 .0) (both (admits s x) (admitsAll slots g) t .0)))
-    (range-admits n slots (z .1) g (both (admits s x) (admitsAll slots g) t .1))
+    (range-admits r n slots (z .1) g (both (admits s x) (admitsAll slots g) t .1))
 
 pub plan-cells : (r n : ℕ) (slots : List Slot) (loads : List Settings) → Ready r n slots loads
     → key? (bestAdmitted slots loads)
-    ≡ joinUpto (cellCount (suc r) slots) (λ i. cond (admitsAll slots (gridAt (suc r) slots i)) (cellBest (suc r) slots loads i) none)
-plan-cells r n slots loads h = plan-key slots loads ∙ best-cells r n slots loads h (admitsAll slots) (range-admits n slots (h .for))
+    ≡ joinUpto (cellCount slots) (λ i. cond (admitsAll slots (gridAt slots i)) (cellBest slots loads i) none)
+plan-cells r n slots loads h = plan-key slots loads ∙ best-cells r n slots loads h (admitsAll slots) (range-admits r n slots (h .for))

@@ -1,5 +1,5 @@
--- Document 01's bounds, the 32 books of document 02's M-107, and the sizes that follow from them, each number once. The code has them as constants of the types that they bound, and the
--- program's two in crate program. The largest charges follow from them too.
+-- Document 01's bounds, those of document 02's M-107 and M-108, and the sizes that follow from them, each number once. The code has them as constants of the
+-- types that they bound, and the program's two in crate program. The largest charges follow from them too.
 use Prim.Native.Nat.{ℕ, _*_, _+_, _/_}
 
 -- "T is the number of slots (quarter hours), 1 to 4. N is the number of loads, 1 to 24. d, the fineness, is 1 to 64. o, the options (levels) of a
@@ -16,6 +16,10 @@ mostFineness = 64
 abbrev pub mostOptions : ℕ
 mostOptions = 3
 
+-- "a ratio r from 1 to 3" (document 02, M-108)
+abbrev pub mostRatio : ℕ
+mostRatio = 3
+
 -- "a number c from 0 to its o"
 abbrev pub mostSettings : ℕ
 mostSettings = mostOptions + 1
@@ -28,8 +32,8 @@ mostPowers = mostSettings * mostSlots
 abbrev pub mostCells : ℕ
 mostCells = 1_048_576
 
--- the rows of a table with so many cells: a slot has R + 1 values of a, and at least twice as many of b, as N is at least 1; so twice the square of the
--- rows is at most the cells, and 2 × 724² ≤ 1,048,576 < 2 × 725²
+-- the rows of a table with so many cells: a slot has R + 1 values of a, and at least twice as many of b, 2rR + (2r - 1) × N + 1, as r and N are at least 1; so
+-- twice the square of the rows is at most the cells, and 2 × 724² ≤ 1,048,576 < 2 × 725²
 abbrev pub mostRows : ℕ
 mostRows = 724
 

@@ -102,9 +102,9 @@ unfoldable pub bestAt : List Slot → (List Power → Bool) → List Settings �
 bestAt slots G loads = bestWhere (λ c. G (gridsOf slots c)) (choices loads)
 
 -- the pairs are in range, and theirs is cell i
-abbrev pub hasCell : ℕ → List Slot → ℕ → List Power → Bool
-hasCell r slots i g = rangeAll slots g && eqb (indexOf r slots g) i
+abbrev pub hasCell : List Slot → ℕ → List Power → Bool
+hasCell slots i g = rangeAll slots g && eqb (indexOf slots g) i
 
 -- THE CELL: the best of the choices whose pairs are its own
-abbrev pub cellBest : ℕ → List Slot → List Settings → ℕ → Option Key
-cellBest r slots loads i = bestAt slots (hasCell r slots i) loads
+abbrev pub cellBest : List Slot → List Settings → ℕ → Option Key
+cellBest slots loads i = bestAt slots (hasCell slots i) loads

@@ -12,24 +12,29 @@ use Rattle.model.specs.Lists.{keep, all, Every}
 use Rattle.model.specs.Book.{Power, noPower, Settings, Problem}
 use Rattle.model.specs.Choice.{Choice, IsChoice, choices, worthOf, codeOf, plus, powerIn, sumIn, square, squareℤ, apparentSquared}
 
--- a slot: its place from 0, its limit S, its step L, and the number N of loads
+-- a slot: its place from 0, its limit S, its step L, and of the book the number N of loads and the ratio r
 pub record Slot : Type 0 where
   pub place : ℕ
   pub limit : ℕ
   pub step : ℕ
   pub loads : ℕ
+  pub ratio : ℕ
 
 -- "For a slot with limit S, the step L is S div (N × d), but at least 1"
 abbrev pub stepFor : ℕ → ℕ → ℕ → ℕ
 stepFor n d s = max 1 (s / (n * d))
 
-abbrev pub slotsFrom : ℕ → ℕ → ℕ → List ℕ → List Slot
-slotsFrom n d i [] = []
-slotsFrom n d i (s ∷ ss) = record { place = i; limit = s; step = stepFor n d s; loads = n } ∷ slotsFrom n d (suc i) ss
+-- the slot at place i of a book with n loads, fineness d and ratio r, whose limit is s
+abbrev pub slotAt : ℕ → ℕ → ℕ → ℕ → ℕ → Slot
+slotAt n d r i s = record { place = i; limit = s; step = stepFor n d s; loads = n; ratio = r }
 
--- the slots of a book
+abbrev pub slotsFrom : ℕ → ℕ → ℕ → ℕ → List ℕ → List Slot
+slotsFrom n d r i [] = []
+slotsFrom n d r i (s ∷ ss) = slotAt n d r i s ∷ slotsFrom n d r (suc i) ss
+
+-- the slots of a book; its ratio is 1, as "|Q| ≤ P"
 unfoldable pub slotsOf : Problem → List Slot
-slotsOf b = slotsFrom (length (b .loads)) (b .fineness) 0 (b .limits)
+slotsOf b = slotsFrom (length (b .loads)) (b .fineness) 1 0 (b .limits)
 
 -- the true sums keep P² + Q² ≤ S² in every slot
 abbrev pub keepsLimits : List Slot → Choice → Bool

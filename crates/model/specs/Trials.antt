@@ -1,5 +1,5 @@
 -- Trials and the work area (document 01, "Trials and the work area"; document 02, M-104 and M-105).
-use Prim.Native.Nat.{ℕ, _+_, _*_, _/_}
+use Prim.Native.Nat.{ℕ, _+_, _*_, _-_, _/_}
 use mathlib.Core.Path.{_≡_}
 use mathlib.Core.Bool.{Bool, false, _&&_}
 use mathlib.Core.List.{List, [], map}
@@ -17,13 +17,20 @@ use Rattle.model.specs.Grid.{Slot, slotsOf, GridPair, gridIn, gridsOf}
 abbrev pub gridTop : Slot → ℕ
 gridTop s = s .limit / s .step
 
--- "a slot has (R + 1) × (2R + N + 1) grid pairs"
+-- how many values b can have where a is at most R: 2rR + (2r - 1) × N + 1
+abbrev pub widthOf : Slot → ℕ
+widthOf s = 2 * s .ratio * gridTop s + (2 * s .ratio - 1) * s .loads + 1
+
+-- "a slot has (R + 1) × (2R + N + 1) grid pairs", where the ratio is 1
 abbrev pub pairsOf : Slot → ℕ
-pairsOf s = (gridTop s + 1) * (2 * gridTop s + s .loads + 1)
+pairsOf s = (gridTop s + 1) * widthOf s
 
 -- "Cells is the product over the slots"
+abbrev pub cellCount : List Slot → ℕ
+cellCount slots = product (map pairsOf slots)
+
 unfoldable pub cells : Problem → ℕ
-cells b = product (map pairsOf (slotsOf b))
+cells b = cellCount (slotsOf b)
 
 -- "4 × cells words are needed"
 abbrev pub neededWords : Problem → ℕ

@@ -54,16 +54,17 @@ pub record ValidBook (b : Problem) : Type 0 where
 
 -- ---- what the search asks of slots and loads
 
--- what the slots of a book for n loads have
-abbrev pub SlotsFor : ℕ → List Slot → Type 0
-SlotsFor n [] = Unit {0}
-SlotsFor n (s ∷ slots) = ((0 < s .step) × (s .loads ≡ n)) × SlotsFor n slots
+-- what the slots of a book for n loads at ratio r have
+abbrev pub SlotsFor : ℕ → ℕ → List Slot → Type 0
+SlotsFor r n [] = Unit {0}
+SlotsFor r n (s ∷ slots) = ((0 < s .step) × (s .loads ≡ n) × (s .ratio ≡ r)) × SlotsFor r n slots
 
--- a book's slots and loads, as the reader makes them: n loads in all, of which `loads` are the first, with |Q| ≤ (r + 1) P
+-- a book's slots and loads, as the reader makes them: n loads in all, of which `loads` are the first, with |Q| ≤ r × P
 pub record Ready (r n : ℕ) (slots : List Slot) (loads : List Settings) : Type 0 where
-  pub for : SlotsFor n slots
+  pub for : SlotsFor r n slots
+  pub some-ratio : 0 < r
   pub few : length loads ≤ n
-  pub keeps : Every (Every (SettingKept (suc r))) loads
+  pub keeps : Every (Every (SettingKept r)) loads
 
 -- a setting adds at most `top` to the worth, and its number is at most 3
 abbrev pub SettingBelow : ℕ → Setting → Type 0

@@ -26,14 +26,14 @@ use Rattle.moves.proofs.MoveLaws.{load-count, load-least}
 
 -- all settings passed
 pub load-all : (x : Load) (h : LoadHeld x) (slots : List Slot) (k : ℕ) (moves : List SettingMove)
-    → ((i : ℕ) → i < x .settings → MoveIs 0 slots k (settingOf (h .settings) (x .least + i)) (getD moves i noMove))
-    → LoadIs 0 slots k (h .settings) (record { count = x .settings; moves = moves })
+    → ((i : ℕ) → i < x .settings → MoveIs slots k (settingOf (h .settings) (x .least + i)) (getD moves i noMove))
+    → LoadIs slots k (h .settings) (record { count = x .settings; moves = moves })
 load-all x h slots k moves f =
     record {
       count-is = load-count x h;
       count-fits = omega (arith, h .labels .few);
       ascending = λ m n l j. omega (arith, number m (omega arith), number n j);
-      each = λ n l. subst (λ v. MoveIs 0 slots k v (getD moves n noMove))
+      each = λ n l. subst (λ v. MoveIs slots k v (getD moves n noMove))
           (ap (λ i. settingOf (h .settings) (i + n)) (load-least x h) ∙ at-place (h .settings) (h .labels) n l)
           (f n (omega (arith, load-count x h)));
     }

@@ -12,11 +12,11 @@ use Rattle.model.specs.declared.Load.{Load}
 use Rattle.model.specs.Book.{Setting}
 use Rattle.model.specs.Choice.{settingOf, leastOf, powerIn}
 use Rattle.model.specs.Grid.{Slot, floorDiv}
-use Rattle.model.specs.Trials.{gridTop}
+use Rattle.model.specs.Trials.{widthOf, cellCount}
 use Rattle.model.specs.Valid.{SettingSmall}
 use Rattle.model.specs.Values.{raised, lowered, loadValue}
 use Rattle.model.specs.Cells.{settingGrid, settingGrids}
-use Rattle.model.specs.Index.{widthOf, rowIndex, rowCount, columnCount, cellCount, columnUp, columnDown}
+use Rattle.model.specs.Index.{rowIndex, rowCount, columnCount, columnUp, columnDown}
 use Rattle.model.specs.Bounds.{mostCells}
 use Rattle.model.proofs.UptoLaws.{getD-upto}
 use Rattle.model.proofs.ValueLaws.{raised-back, raised-small, raised-parts}
@@ -25,10 +25,11 @@ use Rattle.model.specs.Index as index
 use Rattle.model.proofs.RowLaws.{digit-plus}
 use Rattle.model.proofs.NumberLaws.{setting-small, offered-number}
 use Rattle.model.proofs.HeldLaws.{load-active, load-reactive, value-least, value-count}
-use Rattle.slots.specs.declared.Slots.{Slots}
-use Rattle.slots.specs.Slots.{noSlot, SlotAt}
-use Rattle.slots.proofs.ArrayLaws.{set-down}
-use Rattle.slots.proofs.ExtentLaws.{rows-some, columns-some, rows-fit, columns-fit, rows-more, columns-more}
+use Rattle.grid.specs.declared.Grid.{Grid}
+use Rattle.grid.specs.declared.SlotGrid.{SlotGrid}
+use Rattle.grid.specs.Geometry.{SlotIs, noSlot, entryAt}
+use Rattle.grid.proofs.ArrayLaws.{set-down}
+use Rattle.grid.proofs.ExtentLaws.{rows-some, columns-some, rows-fit, columns-fit, cells-fit, rows-more, columns-more}
 use Rattle.moves.specs.Moves.{ActivesAre, MoveIs, LoadHeld}
 
 -- digits that are at most m, in n places whose values multiply up to c
@@ -40,11 +41,11 @@ digit-most n x c w d m h k some =
 pub record Moved (slots : List Slot) (v : Setting) (t back up down : ℕ) (active : List ℕ) : Type 0 where
   pub active-length : length active ≡ 4
   pub back-is : back ≡ rowIndex (drop t slots) (settingGrids (drop t slots) v)
-  pub shift-is : up + columnDown 1 (drop t slots) (settingGrids (drop t slots) v) ≡ down + columnUp 1 (drop t slots) (settingGrids (drop t slots) v)
+  pub shift-is : up + columnDown (drop t slots) (settingGrids (drop t slots) v) ≡ down + columnUp (drop t slots) (settingGrids (drop t slots) v)
   pub actives-are : (i : ℕ) → t ≤ i → i < length slots → getD active i 0 ≡ settingGrid (getD slots i noSlot) v .p
   pub back-most : back ≤ 65536 * (length slots - t) * rowCount (drop t slots)
-  pub up-most : up ≤ 65536 * (length slots - t) * columnCount 1 (drop t slots)
-  pub down-most : down ≤ 65536 * (length slots - t) * columnCount 1 (drop t slots)
+  pub up-most : up ≤ 65536 * (length slots - t) * columnCount (drop t slots)
+  pub down-most : down ≤ 65536 * (length slots - t) * columnCount (drop t slots)
 
 pub moved-none : (slots : List Slot) (v : Setting) (t : ℕ) (active : List ℕ) → t ≡ length slots → length active ≡ 4 → Moved slots v t 0 0 0 active
 moved-none slots v t active e four =
@@ -52,7 +53,7 @@ moved-none slots v t active e four =
     record {
       active-length = four;
       back-is = ap (λ ss. rowIndex ss (settingGrids ss v)) (sym none);
-      shift-is = subst (λ ss. 0 + columnDown 1 ss (settingGrids ss v) ≡ 0 + columnUp 1 ss (settingGrids ss v)) (sym none) refl;
+      shift-is = subst (λ ss. 0 + columnDown ss (settingGrids ss v) ≡ 0 + columnUp ss (settingGrids ss v)) (sym none) refl;
       actives-are = λ i h l. absurd (omega arith);
       back-most = omega arith;
       up-most = omega arith;
@@ -60,9 +61,8 @@ moved-none slots v t active e four =
     }
 
 -- the numbers of one slot and of a setting there
-pub record Digits (s : Slot) (v : Setting) (top wide a b : ℕ) : Type 0 where
-  pub top-is : top ≡ gridTop s + 1
-  pub wide-is : wide ≡ widthOf 1 s
+pub record Digits (s : Slot) (v : Setting) (x : SlotGrid) (a b : ℕ) : Type 0 where
+  pub slot-is : SlotIs s x
   pub active-is : a ≡ settingGrid s v .p
   pub reactive-is : b ≡ raised (settingGrid s v .q)
 
@@ -71,7 +71,7 @@ left-more : (t n : ℕ) → t < n → n - t ≡ n - suc t + 1
 left-more t n l = omega arith
 
 module _ (slots : List Slot) (v : Setting) (small : SettingSmall v) (t : ℕ) (l : t < length slots) (few : length slots ≤ 4)
-    (top wide a b back up down : ℕ) (active : List ℕ) (d : Digits (getD slots t noSlot) v top wide a b) (m : Moved slots v (suc t) back up down active) where
+    (x : SlotGrid) (a b back up down : ℕ) (active : List ℕ) (d : Digits (getD slots t noSlot) v x a b) (m : Moved slots v (suc t) back up down active) where
   near : natAbs (settingGrid (getD slots t noSlot) v .q) ≤ 32768
   near = floor-small (powerIn (getD slots t noSlot .place) v .q) (getD slots t noSlot .step) (small .reactive (getD slots t noSlot .place))
 
@@ -81,56 +81,56 @@ module _ (slots : List Slot) (v : Setting) (small : SettingSmall v) (t : ℕ) (l
   pub b-small : b ≤ 65536
   b-small = omega (arith, d .reactive-is, raised-small (settingGrid (getD slots t noSlot) v .q) near)
 
-  back-bound : back * top + a ≤ 65536 * (length slots - t) * rowCount (drop t slots)
+  back-bound : back * x .top + a ≤ 65536 * (length slots - t) * rowCount (drop t slots)
   back-bound =
-      let e = rows-more slots t l top wide (d .top-is) (d .wide-is) in
-      let h = digit-most (length slots - suc t) back (rowCount (drop (suc t) slots)) top a 65536 (m .back-most) (omega (arith, a-small)) (omega (arith, e, rows-some (drop t slots))) in
-      subst (λ n. back * top + a ≤ 65536 * n * rowCount (drop t slots)) (sym (left-more t (length slots) l))
-      (subst (λ n. back * top + a ≤ 65536 * (length slots - suc t + 1) * n) e h)
+      let e = rows-more slots t l x (d .slot-is) in
+      let h = digit-most (length slots - suc t) back (rowCount (drop (suc t) slots)) (x .top) a 65536 (m .back-most) (omega (arith, a-small)) (omega (arith, e, rows-some (drop t slots))) in
+      subst (λ n. back * x .top + a ≤ 65536 * n * rowCount (drop t slots)) (sym (left-more t (length slots) l))
+      (subst (λ n. back * x .top + a ≤ 65536 * (length slots - suc t + 1) * n) e h)
 
-  column-bound : (x y : ℕ) → x ≤ 65536 * (length slots - suc t) * columnCount 1 (drop (suc t) slots) → y ≤ 65536 → x * wide + y ≤ 65536 * (length slots - t) * columnCount 1 (drop t slots)
-  column-bound x y q k =
-      let e = columns-more slots t l top wide (d .top-is) (d .wide-is) in
-      let h = digit-most (length slots - suc t) x (columnCount 1 (drop (suc t) slots)) wide y 65536 q k (omega (arith, e, columns-some (drop t slots))) in
-      subst (λ n. x * wide + y ≤ 65536 * n * columnCount 1 (drop t slots)) (sym (left-more t (length slots) l))
-      (subst (λ n. x * wide + y ≤ 65536 * (length slots - suc t + 1) * n) e h)
+  column-bound : (n y : ℕ) → n ≤ 65536 * (length slots - suc t) * columnCount (drop (suc t) slots) → y ≤ 65536 → n * x .width + y ≤ 65536 * (length slots - t) * columnCount (drop t slots)
+  column-bound n y q k =
+      let e = columns-more slots t l x (d .slot-is) in
+      let h = digit-most (length slots - suc t) n (columnCount (drop (suc t) slots)) (x .width) y 65536 q k (omega (arith, e, columns-some (drop t slots))) in
+      subst (λ m. n * x .width + y ≤ 65536 * m * columnCount (drop t slots)) (sym (left-more t (length slots) l))
+      (subst (λ m. n * x .width + y ≤ 65536 * (length slots - suc t + 1) * m) e h)
 
   -- one slot more
-  pub moved-more : Moved slots v t (back * top + a) (up * wide + b) (down * wide + 32768) (set active t a)
+  pub moved-more : Moved slots v t (back * x .top + a) (up * x .width + b) (down * x .width + 32768) (set active t a)
   moved-more =
       let s = getD slots t noSlot in
       let e = drop-cons slots t noSlot l in
       let rest = drop (suc t) slots in
       record {
         active-length = length-set active t a ∙ m .active-length;
-        back-is = ap₂ (λ x y. x * top + y) (m .back-is) (d .active-is)
-            ∙ ap (λ n. rowIndex rest (settingGrids rest v) * n + settingGrid s v .p) (d .top-is)
+        back-is = ap₂ (λ m n. m * x .top + n) (m .back-is) (d .active-is)
+            ∙ ap (λ n. rowIndex rest (settingGrids rest v) * n + settingGrid s v .p) (d .slot-is .top-is)
             ∙ ap (λ ss. rowIndex ss (settingGrids ss v)) (sym e);
-        shift-is = subst (λ ss. up * wide + b + columnDown 1 ss (settingGrids ss v) ≡ down * wide + 32768 + columnUp 1 ss (settingGrids ss v)) (sym e)
-            (subst (λ w. up * w + b + columnDown 1 (s ∷ rest) (settingGrids (s ∷ rest) v) ≡ down * w + 32768 + columnUp 1 (s ∷ rest) (settingGrids (s ∷ rest) v)) (sym (d .wide-is))
-            (digit-plus up (columnDown 1 rest (settingGrids rest v)) down (columnUp 1 rest (settingGrids rest v)) (widthOf 1 s) b (index.down (settingGrid s v .q)) 32768 (index.up (settingGrid s v .q)) (m .shift-is)
-            (ap (λ x. x + index.down (settingGrid s v .q)) (d .reactive-is) ∙ raised-parts (settingGrid s v .q) near)));
-        actives-are = set-down (λ i x. x ≡ settingGrid (getD slots i noSlot) v .p) active t (length slots) a 0 (omega (arith, m .active-length)) (d .active-is) (λ i h k. m .actives-are i h k);
+        shift-is = subst (λ ss. up * x .width + b + columnDown ss (settingGrids ss v) ≡ down * x .width + 32768 + columnUp ss (settingGrids ss v)) (sym e)
+            (subst (λ w. up * w + b + columnDown (s ∷ rest) (settingGrids (s ∷ rest) v) ≡ down * w + 32768 + columnUp (s ∷ rest) (settingGrids (s ∷ rest) v)) (sym (d .slot-is .width-is))
+            (digit-plus up (columnDown rest (settingGrids rest v)) down (columnUp rest (settingGrids rest v)) (widthOf s) b (index.down (settingGrid s v .q)) 32768 (index.up (settingGrid s v .q)) (m .shift-is)
+            (ap (λ n. n + index.down (settingGrid s v .q)) (d .reactive-is) ∙ raised-parts (settingGrid s v .q) near)));
+        actives-are = set-down (λ i n. n ≡ settingGrid (getD slots i noSlot) v .p) active t (length slots) a 0 (omega (arith, m .active-length)) (d .active-is) (λ i h k. m .actives-are i h k);
         back-most = back-bound;
         up-most = column-bound up b (m .up-most) b-small;
         down-most = column-bound down 32768 (m .down-most) (omega arith);
       }
 
 -- nothing is over 2^38
-module _ (slots : List Slot) (v : Setting) (few : length slots ≤ 4) (fits : cellCount 1 slots ≤ mostCells) (t back up down : ℕ) (active : List ℕ) (m : Moved slots v t back up down active) where
+module _ (slots : List Slot) (v : Setting) (few : length slots ≤ 4) (fits : cellCount slots ≤ mostCells) (t back up down : ℕ) (active : List ℕ) (m : Moved slots v t back up down active) where
   room : (x c : ℕ) → x ≤ 65536 * (length slots - t) * c → c ≤ mostCells → x ≤ 274877906944
   room x c h k =
       let n : 65536 * (length slots - t) ≤ 262144 = omega arith in
       omega (arith, mul-le-mul n k)
 
   pub back-fits : back ≤ 274877906944
-  back-fits = room back (rowCount (drop t slots)) (m .back-most) (rows-fit slots fits t)
+  back-fits = room back (rowCount (drop t slots)) (m .back-most) (rows-fit (drop t slots) (cells-fit slots t fits))
 
   pub up-fits : up ≤ 274877906944
-  up-fits = room up (columnCount 1 (drop t slots)) (m .up-most) (columns-fit slots fits t)
+  up-fits = room up (columnCount (drop t slots)) (m .up-most) (columns-fit (drop t slots) (cells-fit slots t fits))
 
   pub down-fits : down ≤ 274877906944
-  down-fits = room down (columnCount 1 (drop t slots)) (m .down-most) (columns-fit slots fits t)
+  down-fits = room down (columnCount (drop t slots)) (m .down-most) (columns-fit (drop t slots) (cells-fit slots t fits))
 
 -- the actives, place by place
 pub actives-in : (active : List ℕ) (v : Setting) (t : ℕ) (slots : List Slot) → ((i : ℕ) → i < length slots → getD active (t + i) 0 ≡ settingGrid (getD slots i noSlot) v .p)
@@ -175,24 +175,23 @@ module _ (x : Load) (h : LoadHeld x) where
       load-q-small = omega (arith, load-q, raised-small (powerIn t (settingOf (h .settings) c) .q) (load-setting .reactive t))
 
       -- the numbers of setting c in slot t
-      pub digits-at : (v : Slots) (s : Slot) (b : ℕ) → SlotAt v t s
+      pub digits-at : (v : Grid) (s : Slot) (b : ℕ) → SlotIs s (entryAt v t) → s .place ≡ t
           → (b ≡ raised (floorDiv (lowered (getD (x .reactives) (4 * c + t) 0)) (getD (v .steps) t 0)))
-          → Digits s (settingOf (h .settings) c) (getD (v .tops) t 0) (getD (v .widths) t 0) (getD (x .actives) (4 * c + t) 0 / getD (v .steps) t 0) b
-      digits-at v s b e f =
+          → Digits s (settingOf (h .settings) c) (entryAt v t) (getD (x .actives) (4 * c + t) 0 / getD (v .steps) t 0) b
+      digits-at v s b e place-is f =
           let z = settingOf (h .settings) c in
           record {
-            top-is = e .top-is;
-            wide-is = e .width-is;
-            active-is = ap₂ (λ m n. m / n) load-p (e .step-is) ∙ ap (λ i. powerIn i z .p / s .step) (sym (e .place-is));
+            slot-is = e;
+            active-is = ap₂ (λ m n. m / n) load-p (e .step-is) ∙ ap (λ i. powerIn i z .p / s .step) (sym place-is);
             reactive-is = f
                 ∙ ap (λ q. raised (floorDiv q (getD (v .steps) t 0))) (ap lowered load-q ∙ raised-back (powerIn t z .q) (load-setting .reactive t))
-                ∙ ap₂ (λ i n. raised (floorDiv (powerIn i z .q) n)) (sym (e .place-is)) (e .step-is);
+                ∙ ap₂ (λ i n. raised (floorDiv (powerIn i z .q) n)) (sym place-is) (e .step-is);
           }
 
   -- all slots passed
   pub moved-all : (c unit k : ℕ) (slots : List Slot) (back up down : ℕ) (active : List ℕ) → x .least ≤ c → c < x .least + x .settings → unit ≡ 4 ^ k → length slots ≤ 4
-      → cellCount 1 slots ≤ mostCells → Moved slots (settingOf (h .settings) c) 0 back up down active
-      → MoveIs 0 slots k (settingOf (h .settings) c) (record { gain = getD (x .worths) c 0; digit = c * unit; back = back; up = up; down = down; active = active })
+      → cellCount slots ≤ mostCells → Moved slots (settingOf (h .settings) c) 0 back up down active
+      → MoveIs slots k (settingOf (h .settings) c) (record { gain = getD (x .worths) c 0; digit = c * unit; back = back; up = up; down = down; active = active })
   moved-all c unit k slots back up down active from l e few fits m =
       let v = settingOf (h .settings) c in
       let number-is : c ≡ v .number = sym (offered-number (h .settings) (h .labels) c (omega (arith, load-least), omega (arith, load-least, load-count))) in

@@ -1,5 +1,5 @@
 -- What the settings of a load do, and the settings of which a load's value speaks.
-use Prim.Native.Nat.{ℕ, suc, _+_, _*_, _^_, _<_, _≤_}
+use Prim.Native.Nat.{ℕ, _+_, _*_, _^_, _<_, _≤_}
 use mathlib.Core.Path.{_≡_}
 use mathlib.Core.List.{List, [], _∷_}
 use lib.ListN.{length, getD}
@@ -30,22 +30,22 @@ ActivesAre active t [] v = Unit {0}
 ActivesAre active t (s ∷ slots) v = (getD active t 0 ≡ settingGrid s v .p) × ActivesAre active (t + 1) slots v
 
 -- `mv` is what the setting v of load k + 1 does
-pub record MoveIs (r : ℕ) (slots : List Slot) (k : ℕ) (v : Setting) (mv : SettingMove) : Type 0 where
+pub record MoveIs (slots : List Slot) (k : ℕ) (v : Setting) (mv : SettingMove) : Type 0 where
   pub gain-is : mv .gain ≡ v .worth
   pub digit-is : mv .digit ≡ v .number * 4 ^ k
   pub back-is : mv .back ≡ rowIndex slots (settingGrids slots v)
   -- only the difference of the two counts, so that both may be raised alike
-  pub shift-is : mv .up + columnDown (suc r) slots (settingGrids slots v) ≡ mv .down + columnUp (suc r) slots (settingGrids slots v)
+  pub shift-is : mv .up + columnDown slots (settingGrids slots v) ≡ mv .down + columnUp slots (settingGrids slots v)
   pub actives-are : ActivesAre (mv .active) 0 slots v
   pub up-fits : mv .up ≤ 1099511627776
   pub down-fits : mv .down ≤ 1099511627776
 
 -- `load` is what the settings of load k + 1 do, by ascending number
-pub record LoadIs (r : ℕ) (slots : List Slot) (k : ℕ) (vs : Settings) (load : LoadMoves) : Type 0 where
+pub record LoadIs (slots : List Slot) (k : ℕ) (vs : Settings) (load : LoadMoves) : Type 0 where
   pub count-is : load .count ≡ length vs
   pub count-fits : length vs ≤ mostSettings
   pub ascending : (m n : ℕ) → m < n → n < length vs → getD vs m noSetting .number < getD vs n noSetting .number
-  pub each : (n : ℕ) → n < length vs → MoveIs r slots k (getD vs n noSetting) (moveOf load n)
+  pub each : (n : ℕ) → n < length vs → MoveIs slots k (getD vs n noSetting) (moveOf load n)
 
 -- ---- what a load holds
 

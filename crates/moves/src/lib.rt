@@ -1,7 +1,7 @@
 // What each setting of a book does to a cell of the table.
+use grid::Grid;
 use model::Book;
 use model::Load;
-use slots::Slots;
 use stretch::LoadMoves;
 use stretch::SettingMove;
 ghost use mathlib.Core.Path.{_≡_};
@@ -12,7 +12,7 @@ ghost use Rattle.model.specs.Grid.{floorDiv};
 ghost use Rattle.model.specs.Choice.{settingOf};
 ghost use Rattle.model.specs.Values.{raised, lowered, Held, problemOf};
 ghost use Rattle.model.specs.Rounding.{floorBySum};
-ghost use Rattle.slots.specs.Slots.{Laid};
+ghost use Rattle.grid.specs.Geometry.{Laid};
 ghost use Rattle.moves.specs.Moves.{movesOf, MoveIs, LoadIs, LoadHeld};
 
 // The grid value of a reactive power, by arithmetic that asks for no sign: `power` is Q + 32,768, so that 32,768 × (L - 1) more make
@@ -26,23 +26,23 @@ fn grid_value(power: u64, step: u64) -> u64
 }
 
 // What setting c of a load does, where `unit` is what an option counts in the code. Both ways of the columns are raised alike.
-fn move_of(load: Load, c: usize, unit: u64, count: usize, slots: Slots) -> SettingMove
+fn move_of(load: Load, c: usize, unit: u64, grid: Grid) -> SettingMove
     requires { ⌜ LoadHeld load ⌝ }
-    requires { ⌜ Laid slots count ⌝ }
+    requires { ⌜ Laid grid ⌝ }
     requires { ⌜ (load .least ≤ c) × (c < load .least + load .settings) × (unit ≤ 70368744177664) ⌝ }
-    ensures { λ r. ⌜ ((h : LoadHeld load) (l : Laid slots count) (k : ℕ) → unit ≡ 4 ^ k → MoveIs 0 (l .slots) k (settingOf (h .settings) c) r) ⌝ }
+    ensures { λ r. ⌜ ((h : LoadHeld load) (l : Laid grid) (k : ℕ) → unit ≡ 4 ^ k → MoveIs (l .slots) k (settingOf (h .settings) c) r) ⌝ }
 {
     let mut active = [0usize; Book::SLOTS];
     let mut back: usize = 0;
     let mut up: usize = 0;
     let mut down: usize = 0;
-    let mut t = count;
+    let mut t = grid.slots;
     while 0 < t {
         t -= 1;
         let at = Book::SLOTS * c + t;
-        let step = slots.steps[t];
-        let top = slots.tops[t];
-        let wide = slots.widths[t];
+        let step = grid.steps[t];
+        let top = grid.tops[t];
+        let wide = grid.widths[t];
         let p = load.actives[at];
         let q = load.reactives[at];
         let a = (p / step) as usize;
@@ -52,9 +52,11 @@ fn move_of(load: Load, c: usize, unit: u64, count: usize, slots: Slots) -> Setti
         up = up * wide + b;
         down = down * wide + 32768;
     }
+    let gain = load.worths[c];
+    let digit = c as u64 * unit;
     SettingMove {
-        gain: load.worths[c],
-        digit: c as u64 * unit,
+        gain,
+        digit,
         back,
         up,
         down,
@@ -75,11 +77,11 @@ fn no_move() -> SettingMove {
 }
 
 // What the settings of a load do, in their order, which is that of their numbers.
-fn moves_of(load: Load, unit: u64, count: usize, slots: Slots) -> LoadMoves
+fn moves_of(load: Load, unit: u64, grid: Grid) -> LoadMoves
     requires { ⌜ LoadHeld load ⌝ }
-    requires { ⌜ Laid slots count ⌝ }
+    requires { ⌜ Laid grid ⌝ }
     requires { ⌜ unit ≤ 70368744177664 ⌝ }
-    ensures { λ r. ⌜ ((h : LoadHeld load) (l : Laid slots count) (k : ℕ) → unit ≡ 4 ^ k → LoadIs 0 (l .slots) k (h .settings) r) ⌝ }
+    ensures { λ r. ⌜ ((h : LoadHeld load) (l : Laid grid) (k : ℕ) → unit ≡ 4 ^ k → LoadIs (l .slots) k (h .settings) r) ⌝ }
 {
     let least = load.least;
     let settings = load.settings;
@@ -87,7 +89,7 @@ fn moves_of(load: Load, unit: u64, count: usize, slots: Slots) -> LoadMoves
     let mut moves = [still; Load::SETTINGS];
     let mut i: usize = 0;
     while i < settings {
-        moves[i] = move_of(load, least + i, unit, count, slots);
+        moves[i] = move_of(load, least + i, unit, grid);
         i += 1;
     }
     LoadMoves {
@@ -97,13 +99,12 @@ fn moves_of(load: Load, unit: u64, count: usize, slots: Slots) -> LoadMoves
 }
 
 // What the settings of all loads do; an option of load k + 1 counts 4^k.
-pub fn loads_of(book: Book, slots: Slots) -> [LoadMoves; Book::LOADS]
+pub fn loads_of(book: Book, grid: Grid) -> [LoadMoves; Book::LOADS]
     requires { ⌜ Held book ⌝ }
-    requires { ⌜ Laid slots (book .slots) ⌝ }
-    ensures { λ r. ⌜ ((l : Laid slots (book .slots)) (k : ℕ) → k < book .count → LoadIs 0 (l .slots) k (getD (problemOf book .loads) k []) (movesOf r k)) ⌝ }
+    requires { ⌜ Laid grid ⌝ }
+    ensures { λ r. ⌜ ((l : Laid grid) (k : ℕ) → k < book .count → LoadIs (l .slots) k (getD (problemOf book .loads) k []) (movesOf r k)) ⌝ }
 {
     let loads = book.count;
-    let count = book.slots;
     let still = no_move();
     let none = LoadMoves {
         count: 0,
@@ -114,7 +115,7 @@ pub fn loads_of(book: Book, slots: Slots) -> [LoadMoves; Book::LOADS]
     let mut k: usize = 0;
     while k < loads {
         let load = book.loads[k];
-        moves[k] = moves_of(load, unit, count, slots);
+        moves[k] = moves_of(load, unit, grid);
         unit = unit * 4;
         k += 1;
     }

@@ -19,7 +19,7 @@ use Rattle.model.proofs.CellLaws.{upto-none}
 use Rattle.table.specs.Table.{cellAt, keyOf, Rows, reached}
 use Rattle.model.proofs.IntegerLaws.{split}
 use Rattle.stretch.specs.declared.SettingMove.{SettingMove}
-use Rattle.stretch.specs.declared.Grid.{Grid}
+use Rattle.grid.specs.declared.Grid.{Grid}
 use Rattle.stretch.specs.declared.LoadMoves.{LoadMoves}
 use Rattle.stretch.specs.declared.Stretch.{Stretch}
 use Rattle.stretch.specs.Stretch.{tried, moveOf, GridFits, Offers, Spans, EmptyFrom, Reaches}

@@ -8,7 +8,7 @@ use lib.ListN.{getD, length}
 use Rattle.model.specs.Cells.{Key, joinUpto, isSome, countUpto}
 use Rattle.model.specs.Bounds.{mostRows}
 use Rattle.table.specs.Table.{cellAt}
-use Rattle.stretch.specs.declared.Grid.{Grid}
+use Rattle.grid.specs.declared.Grid.{Grid}
 use Rattle.stretch.specs.declared.LoadMoves.{LoadMoves}
 use Rattle.rows.specs.Row.{heldIn, held, offerOf}
 use Rattle.pass.specs.declared.Made.{Made}

@@ -1,7 +1,7 @@
 // One load's pass over the table: each row of the next layer is emptied where something can reach it, and is then offered, for each
 // setting in ascending order, the row that lies as far back as the setting's active powers say. Of each row only a stretch of columns
 // counts.
-use stretch::Grid;
+use grid::Grid;
 use stretch::LoadMoves;
 ghost use mathlib.Core.Path.{_≡_};
 ghost use mathlib.Core.Bool.{true};

@@ -1,10 +1,9 @@
 // The planner: the sheet of the plan, or the first refusal of 1 to 12 and 17.
-use layout::Layout;
+use grid::Grid;
 use model::Answer;
 use model::Book;
 use model::Finding;
 use model::Refusal;
-use slots::Slots;
 ghost use mathlib.Core.Path.{_≡_};
 ghost use Prim.Native.Nat.{_≤_};
 ghost use lib.ListN.{length};
@@ -15,21 +14,19 @@ ghost use Rattle.model.specs.Sheet.{sheetLength};
 ghost use Rattle.model.specs.Calls.{planSheet, plannerResult, fitting, freeFor, freeWords};
 ghost use Rattle.model.specs.Demand.{Answered, Demand3};
 ghost use Rattle.model.specs.Values.{Held, problemOf};
-ghost use Rattle.slots.specs.Slots.{SlotsIn};
-ghost use Rattle.layout.specs.Layout.{LayoutIs};
+ghost use Rattle.grid.specs.Geometry.{GridIs};
 ghost use Rattle.planner.specs.Planner.{fittedPlan};
 
 // The planner for a book that fits: refusal 12 or 17, or the sheet.
-fn plan_for(book: Book, slots: Slots, layout: Layout, work: &mut [u64], sheet: &mut [u8]) -> Answer
+fn plan_for(book: Book, grid: Grid, work: &mut [u64], sheet: &mut [u8]) -> Answer
     requires { ⌜ Held book ⌝ }
-    requires { ⌜ SlotsIn 0 (slots .steps) (slots .tops) (slots .widths) (book .limits) 0 (slotsOf (problemOf book)) ⌝ }
-    requires { ⌜ LayoutIs (problemOf book) layout ⌝ }
+    requires { ⌜ GridIs (slotsOf (problemOf book)) grid ⌝ }
     requires { ⌜ neededWords (problemOf book) ≤ length (now work) ⌝ }
     requires { ⌜ sheetLength (problemOf book) ≤ length (now sheet) ⌝ }
     ensures result { λ r. ⌜ Writes (planSheet (problemOf book)) (now (sheet .entry)) (now (sheet .exit)) r ⌝ }
     ensures words { λ _. ⌜ WordsKept (neededWords (problemOf book)) (now (work .entry)) (now (work .exit)) ⌝ }
 {
-    let found = found::search_for(book, slots, layout, work);
+    let found = found::search_for(book, grid, work);
     if !found.within {
         return Answer::refusal(Refusal::BudgetExceeded, 0);
     }
@@ -46,14 +43,12 @@ fn plan_book(book: Book, work: &mut [u64], sheet: &mut [u8]) -> Answer
     ensures result { λ r. ⌜ Writes (fittedPlan (length (now (work .entry))) (length (now (sheet .entry))) (problemOf book)) (now (sheet .entry)) (now (sheet .exit)) r ⌝ }
     ensures words { λ _. ⌜ WordsKept (freeFor (fitting (length (now (work .entry))) (length (now (sheet .entry))) (problemOf book))) (now (work .entry)) (now (work .exit)) ⌝ }
 {
-    let slots = slots::slots_of(book);
-    let total = slots::cells_of(book, slots);
-    let finding = fits::size_finding(book, total, work.len(), sheet.len());
+    let grid = grid::grid_of(book);
+    let finding = fits::size_finding(book, grid.cells, work.len(), sheet.len());
     if let Finding::Refused(r) = finding {
         return Answer::refusal(r, 0);
     }
-    let layout = layout::layout_of(book, slots, total);
-    plan_for(book, slots, layout, work, sheet)
+    plan_for(book, grid, work, sheet)
 }
 
 // The planner: the sheet of the plan, or the first refusal of 1 to 12 and 17.

@@ -13,7 +13,7 @@ use Rattle.model.specs.Cells.{Key, shift?, Bounded}
 use Rattle.table.specs.Table.{cellAt, keyOf, offered, offeredRow, Filled, Roomy, Rows}
 use Rattle.model.proofs.IntegerLaws.{split}
 use Rattle.stretch.specs.declared.SettingMove.{SettingMove}
-use Rattle.stretch.specs.declared.Grid.{Grid}
+use Rattle.grid.specs.declared.Grid.{Grid}
 use Rattle.stretch.specs.declared.LoadMoves.{LoadMoves}
 use Rattle.stretch.specs.declared.Stretch.{Stretch}
 use Rattle.stretch.specs.Stretch.{moveOf, GridFits, StretchesFit, MoveFits, Offers, Part}

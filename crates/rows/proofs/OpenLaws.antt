@@ -11,7 +11,7 @@ use borrow.Author.Tests.{lt-ltb, le-ltb, le-leb, lt-leb}
 use Rattle.model.specs.Cells.{Key, shift?}
 use Rattle.model.proofs.IntegerLaws.{split}
 use Rattle.table.specs.Table.{cellAt, keyOf, carriedRow, noCell, Rows, Filled}
-use Rattle.stretch.specs.declared.Grid.{Grid}
+use Rattle.grid.specs.declared.Grid.{Grid}
 use Rattle.stretch.specs.declared.LoadMoves.{LoadMoves}
 use Rattle.stretch.specs.declared.Stretch.{Stretch}
 use Rattle.stretch.specs.Stretch.{moveOf, GridFits, StretchesFit, Part, Spans}

@@ -14,7 +14,7 @@ use Rattle.model.specs.Cells.{Key, shift?, Bounded}
 use Rattle.model.proofs.ListLaws.{both-true}
 use Rattle.table.specs.Table.{cellAt, keyOf, Rows}
 use Rattle.stretch.specs.declared.SettingMove.{SettingMove}
-use Rattle.stretch.specs.declared.Grid.{Grid}
+use Rattle.grid.specs.declared.Grid.{Grid}
 use Rattle.stretch.specs.declared.LoadMoves.{LoadMoves}
 use Rattle.stretch.specs.Stretch.{tried, moveOf, GridFits, StretchesFit, Offers}
 use Rattle.rows.specs.Row.{heldIn, held, sourceOf, offerOf, MoveRoom, LoadRoom, RowKeys}

@@ -10,7 +10,7 @@ use lib.Dec.{ltb, leb}
 use Rattle.model.specs.Cells.{Key, shift?, Bounded}
 use Rattle.table.specs.Table.{cellAt, keyOf}
 use Rattle.stretch.specs.declared.SettingMove.{SettingMove}
-use Rattle.stretch.specs.declared.Grid.{Grid}
+use Rattle.grid.specs.declared.Grid.{Grid}
 use Rattle.stretch.specs.declared.LoadMoves.{LoadMoves}
 use Rattle.stretch.specs.declared.Stretch.{Stretch}
 use Rattle.stretch.specs.Stretch.{tried, moveOf}

@@ -1,5 +1,5 @@
 // One row of the next layer: it is opened, and is then offered what each setting brings there.
-use stretch::Grid;
+use grid::Grid;
 use stretch::LoadMoves;
 use stretch::SettingMove;
 use stretch::Stretch;

@@ -133,17 +133,17 @@ cond-none false e = refl
 module _ (ss : List Slot) (ws : List ℕ) (at low high row : ℕ) where
   admitted-low : (i : ℕ) → i < low → admittedIn ss ws at low high row i ≡ none
   unfolding admittedIn
-  admitted-low i l = cond-none (admitsAll ss (gridFrom 1 ss row i)) (held-low ws at low high i l)
+  admitted-low i l = cond-none (admitsAll ss (gridFrom ss row i)) (held-low ws at low high i l)
 
   admitted-high : (i : ℕ) → high ≤ i → admittedIn ss ws at low high row i ≡ none
   unfolding admittedIn
-  admitted-high i l = cond-none (admitsAll ss (gridFrom 1 ss row i)) (held-high ws at low high i l)
+  admitted-high i l = cond-none (admitsAll ss (gridFrom ss row i)) (held-high ws at low high i l)
 
   -- a cell of the stretch
   admitted-in : (i : ℕ) → low ≤ i → i < high
-      → cond (admitsAll ss (gridFrom 1 ss row i)) (keyOf (cellAt ws (at + i))) none ≡ admittedIn ss ws at low high row i
+      → cond (admitsAll ss (gridFrom ss row i)) (keyOf (cellAt ws (at + i))) none ≡ admittedIn ss ws at low high row i
   unfolding admittedIn
-  admitted-in i l k = ap (λ x. cond (admitsAll ss (gridFrom 1 ss row i)) x none) (sym (held-in ws at low high i l k))
+  admitted-in i l k = ap (λ x. cond (admitsAll ss (gridFrom ss row i)) x none) (sym (held-in ws at low high i l k))
 
   -- the best before the stretch
   pub row-start : (x : Option Key) → x ≡ join x (joinUpto low (admittedIn ss ws at low high row))
@@ -153,7 +153,7 @@ module _ (ss : List Slot) (ws : List ℕ) (at low high row : ℕ) where
   module _ (y : Option Key) (col : ℕ) where
     -- one cell more
     pub row-next : {x z : Option Key} → low ≤ col → col < high → x ≡ join y (joinUpto col (admittedIn ss ws at low high row))
-        → z ≡ join x (cond (admitsAll ss (gridFrom 1 ss row col)) (keyOf (cellAt ws (at + col))) none)
+        → z ≡ join x (cond (admitsAll ss (gridFrom ss row col)) (keyOf (cellAt ws (at + col))) none)
         → z ≡ join y (joinUpto (col + 1) (admittedIn ss ws at low high row))
     row-next l k e q =
         q
@@ -168,7 +168,7 @@ module _ (ss : List Slot) (ws : List ℕ) (at low high row : ℕ) where
     unfolding cellAt
     row-less best l k e h =
         row-next l k e
-        (not-taken (admitsAll ss (gridFrom 1 ss row col)) (keyOf best) (keyOf (cellAt ws (at + col))) (kept-less best (cellAt ws (at + col)) h))
+        (not-taken (admitsAll ss (gridFrom ss row col)) (keyOf best) (keyOf (cellAt ws (at + col))) (kept-less best (cellAt ws (at + col)) h))
 
     -- past the stretch
     pub row-past : {x : Option Key} (width : ℕ) → high ≤ col → high ≤ width → x ≡ join y (joinUpto col (admittedIn ss ws at low high row))

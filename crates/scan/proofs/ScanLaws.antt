@@ -3,17 +3,16 @@
 use Prim.Native.Nat.{ℕ, zero, suc, _+_, _*_, _/_, _%_, _<_, _≤_}
 use mathlib.Core.Path.{_≡_, refl, sym, ap, ap₂, _∙_}
 use mathlib.Core.Bool.{cond}
-use mathlib.Core.List.{List, [], _∷_}
+use mathlib.Core.List.{List}
 use mathlib.Core.Option.{Option, none}
-use native.Mathlib.Nat.{le-antisymm, suc-mul, add-zero, add-suc, div-le-self, max-le}
+use native.Mathlib.Nat.{le-antisymm, suc-mul, add-zero, add-suc}
 use native.Mathlib.Numerals.{add-one}
 use native.Mathlib.Omega.{arith}
 use lib.Arith.{digits-div, digits-mod}
-use lib.ListN.{length, getD, take}
+use lib.ListN.{getD, take}
 use lib.Seq.{take-all}
-use Rattle.model.specs.Lists.{Every}
-use Rattle.model.specs.Book.{Power, Problem}
-use Rattle.model.specs.Grid.{Slot, slotsFrom, slotsOf, bestAdmitted}
+use Rattle.model.specs.Book.{Power}
+use Rattle.model.specs.Grid.{Slot, bestAdmitted}
 use Rattle.model.specs.Cells.{Key, join, joinUpto, admitsAll, cellBest}
 use Rattle.model.specs.Index.{columnCount, gridFrom}
 use Rattle.model.proofs.KeyLaws.{join-none, join-assoc}
@@ -22,16 +21,15 @@ use Rattle.model.proofs.RecurrenceLaws.{key?}
 use Rattle.model.proofs.TableLaws.{plan-cells}
 use Rattle.table.specs.declared.Cell.{Cell}
 use Rattle.table.specs.Table.{keyOf}
-use Rattle.stretch.specs.declared.Grid.{Grid}
+use Rattle.grid.specs.declared.Grid.{Grid}
 use Rattle.stretch.specs.declared.LoadMoves.{LoadMoves}
 use Rattle.stretch.specs.Stretch.{GridFits}
 use Rattle.rows.specs.Row.{held}
 use Rattle.rows.proofs.SourceLaws.{row-end}
 use Rattle.pass.proofs.LayerLaws.{join-same}
-use Rattle.slots.specs.Slots.{SlotsIn}
 use Rattle.search.specs.Search.{Modelled, LayerIs}
 use Rattle.search.proofs.ModelLaws.{area}
-use Rattle.admits.specs.Admits.{SlotSmall, SlotsHeld}
+use Rattle.admits.specs.Admits.{SlotsHeld}
 use Rattle.scan.specs.Scan.{admittedIn, bestOfLayer}
 
 -- ---- the layer row by row
@@ -40,7 +38,7 @@ use Rattle.scan.specs.Scan.{admittedIn, bestOfLayer}
 unfoldable pub bestOfRows : List Slot → List ℕ → List ℕ → List ℕ → ℕ → ℕ → ℕ → Option Key
 unfolding held
 bestOfRows ss ws lows highs cur width n =
-    joinUpto n (λ row. joinUpto width (λ col. cond (admitsAll ss (gridFrom 1 ss row col)) (held ws lows highs cur width row col) none))
+    joinUpto n (λ row. joinUpto width (λ col. cond (admitsAll ss (gridFrom ss row col)) (held ws lows highs cur width row col) none))
 
 module _ (ss : List Slot) (ws lows highs : List ℕ) (cur width : ℕ) where
   pub rows-none : keyOf (record { worth = 0; code = 0 }) ≡ bestOfRows ss ws lows highs cur width 0
@@ -86,64 +84,38 @@ upto-rows (suc n) width f g h =
     ∙ ap (λ x. joinUpto x f) (sym (suc-mul n width))
 
 -- THE BEST ADMITTED CELL OF THE LAST LAYER IS THE PLAN
-pub scan-plan : {grid : Grid} {origin n : ℕ} {moves : List LoadMoves} (m : Modelled grid origin n moves) (ws lows highs : List ℕ) (cur : ℕ)
-    → m .r ≡ 0 → LayerIs ws lows highs grid origin n moves m n cur
-    → bestOfLayer (m .slots) ws lows highs grid cur ≡ key? (bestAdmitted (m .slots) (m .loads))
+pub scan-plan : {grid : Grid} {n : ℕ} {moves : List LoadMoves} (m : Modelled grid n moves) (ws lows highs : List ℕ) (cur : ℕ)
+    → LayerIs ws lows highs grid n moves m n cur → bestOfLayer (m .slots) ws lows highs grid cur ≡ key? (bestAdmitted (m .slots) (m .loads))
 unfolding bestOfLayer
-scan-plan {grid} {origin} {n} {moves} m ws lows highs cur z layer =
-    upto-rows (grid .rows) (grid .width) cell (λ row col. cond (admitsAll (m .slots) (gridFrom 1 (m .slots) row col)) (held ws lows highs cur (grid .width) row col) none) each
+scan-plan {grid} {n} {moves} m ws lows highs cur layer =
+    upto-rows (grid .rows) (grid .width) cell (λ row col. cond (admitsAll (m .slots) (gridFrom (m .slots) row col)) (held ws lows highs cur (grid .width) row col) none) each
     ∙ ap (λ k. joinUpto k cell) (area m)
     ∙ sym (plan-cells (m .r) n (m .slots) (m .loads) (m .ready))
   where
     cell : ℕ → Option Key
-    cell i = cond (admitsAll (m .slots) (gridAt (suc (m .r)) (m .slots) i)) (cellBest (suc (m .r)) (m .slots) (m .loads) i) none
+    cell i = cond (admitsAll (m .slots) (gridAt (m .slots) i)) (cellBest (m .slots) (m .loads) i) none
 
     all : take n (m .loads) ≡ m .loads
     all = take-all n (m .loads) (omega (arith, m .loads-are))
 
     -- the list of pairs of a cell
-    grid-at : (row col : ℕ) → col < grid .width → gridFrom 1 (m .slots) row col ≡ gridAt (suc (m .r)) (m .slots) (row * grid .width + col)
+    grid-at : (row col : ℕ) → col < grid .width → gridFrom (m .slots) row col ≡ gridAt (m .slots) (row * grid .width + col)
     grid-at row col k =
-        let w : grid .width ≡ columnCount (suc (m .r)) (m .slots) = m .grid-is .width-is in
-        ap (λ r. gridFrom (suc r) (m .slots) row col) (sym z)
-        ∙ sym (ap₂ (gridFrom (suc (m .r)) (m .slots))
+        let w : grid .width ≡ columnCount (m .slots) = m .grid-is .width-is in
+        sym (ap₂ (gridFrom (m .slots))
         (ap (λ v. (row * grid .width + col) / v) (sym w) ∙ digits-div row k) (ap (λ v. (row * grid .width + col) % v) (sym w) ∙ digits-mod row k))
 
     each : (row col : ℕ) → row < grid .rows → col < grid .width
-        → cond (admitsAll (m .slots) (gridFrom 1 (m .slots) row col)) (held ws lows highs cur (grid .width) row col) none ≡ cell (row * grid .width + col)
+        → cond (admitsAll (m .slots) (gridFrom (m .slots) row col)) (held ws lows highs cur (grid .width) row col) none ≡ cell (row * grid .width + col)
     each row col l k =
         ap₂ (λ (g : List Power) x. cond (admitsAll (m .slots) g) x none) (grid-at row col k)
-        (layer .cell row col l k ∙ ap (λ ls. cellBest (suc (m .r)) (m .slots) ls (row * grid .width + col)) all)
-
--- the slots of the search are those of the scan
-abbrev pub slots-held : {grid : Grid} {origin n : ℕ} {moves : List LoadMoves} {steps widths limits : List ℕ} (m : Modelled grid origin n moves)
-    → SlotsIn 0 steps (grid .tops) widths limits 0 (m .slots) → Every SlotSmall (m .slots) → SlotsHeld (grid .slots) n steps (grid .tops) widths limits
-slots-held m are small = record {
-  ss = m .slots;
-  ss-are = are;
-  many = sym (m .grid-is .slots-are);
-  few = omega (arith, m .grid-is .slots-are, m .grid-is .slots-fit);
-  for = m .ready .for;
-  small = small;
-  count-fits = m .loads-fit;
-}
+        (layer .cell row col l k ∙ ap (λ ls. cellBest (m .slots) ls (row * grid .width + col)) all)
 
 -- what `scan` finds in the layer that `search` leaves
-pub scan-finds : {grid : Grid} {origin n : ℕ} {moves : List LoadMoves} {steps widths limits : List ℕ} (m : Modelled grid origin n moves)
-    (ws lows highs : List ℕ) (cur : ℕ) (r : Cell) → m .r ≡ 0 → SlotsIn 0 steps (grid .tops) widths limits 0 (m .slots) → Every SlotSmall (m .slots)
-    → LayerIs ws lows highs grid origin n moves m n cur
-    → ((h : SlotsHeld (grid .slots) n steps (grid .tops) widths limits) → keyOf r ≡ bestOfLayer (h .ss) ws lows highs grid cur)
+pub scan-finds : {grid : Grid} {n : ℕ} {moves : List LoadMoves} {limits : List ℕ} (m : Modelled grid n moves)
+    (ws lows highs : List ℕ) (cur : ℕ) (r : Cell) (h : SlotsHeld grid n limits) → h .laid .slots ≡ m .slots
+    → LayerIs ws lows highs grid n moves m n cur
+    → ((h : SlotsHeld grid n limits) → keyOf r ≡ bestOfLayer (h .laid .slots) ws lows highs grid cur)
     → keyOf r ≡ key? (bestAdmitted (m .slots) (m .loads))
-scan-finds m ws lows highs cur r z are small layer found = found (slots-held m are small) ∙ scan-plan m ws lows highs cur z layer
-
--- the slots of a book with limits of 16 bits are small
-pub slots-small : (b : Problem) → Every (λ l. l < 65536) (b .limits) → Every SlotSmall (slotsOf b)
-unfolding slotsOf
-slots-small b = go (length (b .loads)) (b .fineness) 0 (b .limits)
-  where
-    go : (n d i : ℕ) (ls : List ℕ) → Every (λ l. l < 65536) ls → Every SlotSmall (slotsFrom n d i ls)
-    go n d i [] h = tt
-    go n d i (l ∷ ls) h =
-        let a : 1 ≤ 65535 = omega arith in
-        let b : l / (n * d) ≤ 65535 = omega (arith, div-le-self l (n * d), h .0) in
-        ((max-le a b, omega (arith, h .0)), go n d (suc i) ls (h .1))
+scan-finds {grid} m ws lows highs cur r h e layer found =
+    found h ∙ ap (λ ss. bestOfLayer ss ws lows highs grid cur) e ∙ scan-plan m ws lows highs cur layer

@@ -1,6 +1,6 @@
 // The last step of the planner: the best cell of the last layer that every slot admits.
+use grid::Grid;
 use model::Book;
-use stretch::Grid;
 use table::Cell;
 ghost use mathlib.Core.Path.{_≡_};
 ghost use mathlib.Core.Bool.{cond};
@@ -34,23 +34,20 @@ fn better_at(
     best: Cell,
     row: usize,
     col: usize,
-    slots: usize,
+    grid: Grid,
     count: u64,
-    steps: [u64; Book::SLOTS],
-    tops: [usize; Book::SLOTS],
-    widths: [usize; Book::SLOTS],
     limits: [u64; Book::SLOTS],
 ) -> Cell
     requires { ⌜ 2 * x + 1 < length (now work) ⌝ }
-    requires { ⌜ SlotsHeld slots count steps tops widths limits ⌝ }
-    ensures { λ r. ⌜ ((h : SlotsHeld slots count steps tops widths limits)
-        → keyOf r ≡ join (keyOf best) (cond (admitsAll (h .ss) (gridFrom 1 (h .ss) row col)) (keyOf (cellAt (now (work .entry)) x)) none)) ⌝ }
+    requires { ⌜ SlotsHeld grid count limits ⌝ }
+    ensures { λ r. ⌜ ((h : SlotsHeld grid count limits)
+        → keyOf r ≡ join (keyOf best) (cond (admitsAll (h .laid .slots) (gridFrom (h .laid .slots) row col)) (keyOf (cellAt (now (work .entry)) x)) none)) ⌝ }
 {
     let c = table::get(work, x);
     if !beats(c, best) {
         return best;
     }
-    if admits::admits_cell(row, col, slots, count, steps, tops, widths, limits) {
+    if admits::admits_cell(row, col, grid, count, limits) {
         return c;
     }
     best
@@ -64,36 +61,21 @@ fn scan_row(
     high: usize,
     row: usize,
     first: Cell,
-    slots: usize,
+    grid: Grid,
     count: u64,
-    steps: [u64; Book::SLOTS],
-    tops: [usize; Book::SLOTS],
-    widths: [usize; Book::SLOTS],
     limits: [u64; Book::SLOTS],
 ) -> Cell
     requires { ⌜ 2 * (at + high) ≤ length (now work) ⌝ }
-    requires { ⌜ SlotsHeld slots count steps tops widths limits ⌝ }
-    ensures { λ r. ⌜ ((h : SlotsHeld slots count steps tops widths limits) (width : ℕ) → high ≤ width
-        → keyOf r ≡ join (keyOf first) (joinUpto width (admittedIn (h .ss) (now (work .entry)) at low high row))) ⌝ }
+    requires { ⌜ SlotsHeld grid count limits ⌝ }
+    ensures { λ r. ⌜ ((h : SlotsHeld grid count limits) (width : ℕ) → high ≤ width
+        → keyOf r ≡ join (keyOf first) (joinUpto width (admittedIn (h .laid .slots) (now (work .entry)) at low high row))) ⌝ }
 {
     let mut best = first;
     let mut col = low;
     while col < high {
         let worth = work[2 * (at + col)];
         if best.worth <= worth {
-            best = better_at(
-                work,
-                at + col,
-                best,
-                row,
-                col,
-                slots,
-                count,
-                steps,
-                tops,
-                widths,
-                limits,
-            );
+            best = better_at(work, at + col, best, row, col, grid, count, limits);
         }
         col += 1;
     }
@@ -108,21 +90,17 @@ pub fn scan(
     lows: &[usize; Grid::ROWS],
     highs: &[usize; Grid::ROWS],
     count: u64,
-    steps: [u64; Book::SLOTS],
-    widths: [usize; Book::SLOTS],
     limits: [u64; Book::SLOTS],
 ) -> Cell
     requires { ⌜ GridFits grid ⌝ }
     requires { ⌜ 2 * (cur + grid .cells) ≤ length (now work) ⌝ }
     requires { ⌜ StretchesFit (now lows) (now highs) grid ⌝ }
-    requires { ⌜ SlotsHeld (grid .slots) count steps (grid .tops) widths limits ⌝ }
-    ensures { λ r. ⌜ ((h : SlotsHeld (grid .slots) count steps (grid .tops) widths limits)
-        → keyOf r ≡ bestOfLayer (h .ss) (now (work .entry)) (now (lows .entry)) (now (highs .entry)) grid cur) ⌝ }
+    requires { ⌜ SlotsHeld grid count limits ⌝ }
+    ensures { λ r. ⌜ ((h : SlotsHeld grid count limits)
+        → keyOf r ≡ bestOfLayer (h .laid .slots) (now (work .entry)) (now (lows .entry)) (now (highs .entry)) grid cur) ⌝ }
 {
     let rows = grid.rows;
     let width = grid.width;
-    let slots = grid.slots;
-    let tops = grid.tops;
     let mut best = Cell { worth: 0, code: 0 };
     let mut row: usize = 0;
     while row < rows {
@@ -135,11 +113,8 @@ pub fn scan(
             high,
             row,
             best,
-            slots,
+            grid,
             count,
-            steps,
-            tops,
-            widths,
             limits,
         );
         row += 1;

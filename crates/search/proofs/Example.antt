@@ -10,7 +10,8 @@ use Rattle.model.specs.Book.{Power, noPower, Setting, Settings}
 use Rattle.model.specs.Choice.{noSetting}
 use Rattle.model.specs.Grid.{Slot}
 use Rattle.model.specs.Valid.{SettingKept}
-use Rattle.stretch.specs.declared.Grid.{Grid}
+use Rattle.grid.specs.declared.Grid.{Grid}
+use Rattle.grid.specs.Geometry.{SlotIs, noSlot, entryAt}
 use Rattle.stretch.specs.declared.LoadMoves.{LoadMoves}
 use Rattle.stretch.specs.declared.SettingMove.{SettingMove}
 use Rattle.stretch.specs.Stretch.{moveOf}
@@ -18,7 +19,7 @@ use Rattle.moves.specs.Moves.{movesOf, MoveIs, LoadIs}
 use Rattle.search.specs.Search.{Modelled}
 
 abbrev slots : List Slot
-slots = record { place = 0; limit = 10; step = 1; loads = 1 } ∷ []
+slots = record { place = 0; limit = 10; step = 1; loads = 1; ratio = 1 } ∷ []
 
 abbrev option : ℕ → Power → Setting
 option number x = record { number = number; worth = 5; powers = x ∷ [] }
@@ -51,7 +52,22 @@ load =
     }
 
 abbrev grid : Grid
-grid = record { cells = 242; width = 22; rows = 11; slots = 1; tops = 11 ∷ 1 ∷ 1 ∷ 1 ∷ [] }
+grid =
+    record {
+      slots = 1;
+      steps = 1 ∷ 0 ∷ 0 ∷ 0 ∷ [];
+      tops = 11 ∷ 0 ∷ 0 ∷ 0 ∷ [];
+      widths = 22 ∷ 0 ∷ 0 ∷ 0 ∷ [];
+      depths = 11 ∷ 0 ∷ 0 ∷ 0 ∷ [];
+      rows = 11;
+      width = 22;
+      cells = 242;
+      origin = 11;
+    }
+
+each-slot : (t : ℕ) → t < 1 → SlotIs (getD slots t noSlot) (entryAt grid t)
+each-slot zero l = record { step-is = refl; top-is = refl; width-is = refl; depth-is = refl }
+each-slot (suc t) l = absurd (omega arith)
 
 kept-standing : SettingKept 1 standing
 kept-standing zero = omega arith
@@ -67,13 +83,13 @@ numbers (suc zero) l = refl
 numbers (suc (suc zero)) l = refl
 numbers (suc (suc (suc n))) l = absurd (omega arith)
 
-each-setting : (n : ℕ) → n < 3 → MoveIs 0 slots 0 (getD settings n noSetting) (moveOf load n)
+each-setting : (n : ℕ) → n < 3 → MoveIs slots 0 (getD settings n noSetting) (moveOf load n)
 each-setting zero l = record { gain-is = refl; digit-is = refl; back-is = refl; shift-is = refl; actives-are = (refl, tt); up-fits = omega arith; down-fits = omega arith }
 each-setting (suc zero) l = record { gain-is = refl; digit-is = refl; back-is = refl; shift-is = refl; actives-are = (refl, tt); up-fits = omega arith; down-fits = omega arith }
 each-setting (suc (suc zero)) l = record { gain-is = refl; digit-is = refl; back-is = refl; shift-is = refl; actives-are = (refl, tt); up-fits = omega arith; down-fits = omega arith }
 each-setting (suc (suc (suc n))) l = absurd (omega arith)
 
-each-load : (k : ℕ) → k < 1 → LoadIs 0 slots k (getD (settings ∷ []) k []) (movesOf (load ∷ []) k)
+each-load : (k : ℕ) → k < 1 → LoadIs slots k (getD (settings ∷ []) k []) (movesOf (load ∷ []) k)
 each-load zero l =
     record {
       count-is = refl;
@@ -83,15 +99,16 @@ each-load zero l =
     }
 each-load (suc k) l = absurd (omega arith)
 
-pub example : Modelled grid 11 1 (load ∷ [])
+pub example : Modelled grid 1 (load ∷ [])
 example =
     record {
-      r = 0;
+      r = 1;
       slots = slots;
       loads = settings ∷ [];
       ready =
           record {
-            for = ((omega arith, refl), tt);
+            for = ((omega arith, refl, refl), tt);
+            some-ratio = omega arith;
             few = omega arith;
             keeps = ((kept-standing, (kept-option 1 first (omega arith), (kept-option 2 second (omega arith), tt))), tt);
           };
@@ -100,7 +117,6 @@ example =
       some-load = omega arith;
       some-slot = omega arith;
       small = (((omega arith, omega arith), ((omega arith, omega arith), ((omega arith, omega arith), tt))), tt);
-      grid-is = record { slots-are = refl; slots-fit = omega arith; tops-are = (refl, tt); rows-are = refl; width-is = refl; cells-are = refl; cells-fit = omega arith };
-      origin-is = refl;
+      grid-is = record { slots-are = refl; slots-fit = omega arith; each = each-slot; rows-are = refl; width-is = refl; cells-are = refl; cells-fit = omega arith; origin-is = refl };
       each = each-load;
     }

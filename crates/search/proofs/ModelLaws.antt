@@ -6,7 +6,7 @@ use mathlib.Core.Bool.{Bool, true, cond, _&&_}
 use mathlib.Core.Logic.{⊎-elim}
 use mathlib.Core.Option.{Option, none}
 use mathlib.Core.List.{List, [], _∷_}
-use native.Mathlib.Nat.{suc-mul, mul-le-mul-right, pow-succ', pow-le-pow-right}
+use native.Mathlib.Nat.{zero-add, suc-mul, mul-le-mul-right, pow-succ', pow-le-pow-right}
 use native.Mathlib.Numerals.{add-one}
 use native.Mathlib.Omega.{arith}
 use lib.Dec.{T, leb, ltb}
@@ -17,7 +17,8 @@ use Rattle.model.specs.Book.{Setting, Settings}
 use Rattle.model.specs.Grid.{Slot}
 use Rattle.model.specs.Choice.{noSetting}
 use Rattle.model.specs.Cells.{Key, shift?, settingGrids, joinUpto, isSome, countUpto, cellBest, Bounded}
-use Rattle.model.specs.Index.{cellCount, columnUp, columnDown}
+use Rattle.model.specs.Trials.{gridTop, cellCount}
+use Rattle.model.specs.Index.{columnUp, columnDown}
 use Rattle.model.specs.Valid.{SettingBelow}
 use Rattle.model.specs.Bounds.{mostLoads}
 use borrow.Author.Tests.{le-leb, lt-leb}
@@ -26,7 +27,8 @@ use Rattle.model.proofs.ListLaws.{every-at, every-take}
 use Rattle.model.proofs.RecurrenceLaws.{step}
 use Rattle.model.proofs.IndexLaws.{cells-area}
 use Rattle.model.proofs.RowLaws.{coversAll, covers-le, sourceTest, sourceCell, rows-step, over-upto, cell-bounded, rows-few}
-use Rattle.stretch.specs.declared.Grid.{Grid}
+use Rattle.grid.specs.declared.Grid.{Grid}
+use Rattle.grid.specs.Geometry.{noSlot}
 use Rattle.stretch.specs.declared.LoadMoves.{LoadMoves}
 use Rattle.stretch.specs.declared.SettingMove.{SettingMove}
 use Rattle.stretch.specs.Stretch.{coversFrom, tried, moveOf, GridFits, MoveFits, LoadFits}
@@ -34,24 +36,24 @@ use Rattle.rows.specs.Row.{held, sourceOf, offerOf, LoadRoom}
 use Rattle.pass.specs.Pass.{countRows, LayerMade}
 use Rattle.rows.proofs.SourceLaws.{source-column, cond-same}
 use Rattle.pass.proofs.LayerLaws.{count-same, count-add, join-same}
-use Rattle.slots.proofs.ExtentLaws.{rows-some}
+use Rattle.grid.proofs.ExtentLaws.{rows-some}
 use Rattle.moves.specs.Moves.{movesOf, ActivesAre, MoveIs, LoadIs}
-use Rattle.search.specs.Search.{TopsAre, Modelled, LayerIs}
+use Rattle.search.specs.Search.{Modelled, LayerIs}
 
 -- ---- the geometry
 
-tops-some : (tops : List ℕ) (t : ℕ) (slots : List Slot) → TopsAre tops t slots → (i : ℕ) → i < length slots → 0 < getD tops (t + i) 0
-tops-some tops t [] a i l = absurd (omega arith)
-tops-some tops t (s ∷ slots) a zero l = let e : t + 0 ≡ t = omega arith in rw e (omega (arith, a .0))
-tops-some tops t (s ∷ slots) a (suc i) l = let e : t + suc i ≡ t + 1 + i = omega arith in rw e (tops-some tops (t + 1) slots (a .1) i (omega arith))
-
-covers-is : (tops active : List ℕ) (slots : List Slot) (v : Setting) (t row : ℕ) → TopsAre tops t slots → ActivesAre active t slots v
+covers-is : (tops active : List ℕ) (slots : List Slot) (v : Setting) (t row : ℕ)
+    → ((i : ℕ) → i < length slots → getD tops (t + i) 0 ≡ gridTop (getD slots i noSlot) + 1) → ActivesAre active t slots v
     → coversFrom tops active t (length slots) row ≡ coversAll slots (settingGrids slots v) row
 unfolding coversFrom
 covers-is tops active [] v t row a b = refl
 covers-is tops active (s ∷ slots) v t row a b =
-    ap₂ _&&_ (ap₂ (λ x y. leb x (row % y)) (b .0) (a .0))
-    (covers-is tops active slots v (t + 1) (row / getD tops t 0) (a .1) (b .1) ∙ ap (λ y. coversAll slots (settingGrids slots v) (row / y)) (a .0))
+    let here : t ≡ t + 0 = omega arith in
+    let top : getD tops t 0 ≡ gridTop s + 1 = ap (λ n. getD tops n 0) here ∙ a 0 (omega arith) in
+    ap₂ _&&_ (ap₂ (λ x y. leb x (row % y)) (b .0) top)
+    (covers-is tops active slots v (t + 1) (row / getD tops t 0)
+    (λ i l. let next : t + 1 + i ≡ t + suc i = omega arith in ap (λ n. getD tops n 0) next ∙ a (suc i) (omega arith)) (b .1)
+    ∙ ap (λ y. coversAll slots (settingGrids slots v) (row / y)) top)
 
 true-test : (t : Bool) → t ≡ true → T t
 true-test t e = subst T (sym e) tt
@@ -67,9 +69,9 @@ count-rows (suc n) width f g h =
     ∙ sym (count-add (n * width) width (λ i. isSome (f i)))
     ∙ ap (λ x. countUpto x (λ i. isSome (f i))) (sym (suc-mul n width))
 
-module _ {grid : Grid} {origin n : ℕ} {moves : List LoadMoves} (m : Modelled grid origin n moves) where
-  pub area : grid .rows * grid .width ≡ cellCount (suc (m .r)) (m .slots)
-  area = ap₂ _*_ (m .grid-is .rows-are) (m .grid-is .width-is) ∙ cells-area (suc (m .r)) (m .slots)
+module _ {grid : Grid} {n : ℕ} {moves : List LoadMoves} (m : Modelled grid n moves) where
+  pub area : grid .rows * grid .width ≡ cellCount (m .slots)
+  area = ap₂ _*_ (m .grid-is .rows-are) (m .grid-is .width-is) ∙ cells-area (m .slots)
 
   pub rows-one : 1 ≤ grid .rows
   rows-one = omega (arith, rows-some (m .slots), m .grid-is .rows-are)
@@ -80,23 +82,23 @@ module _ {grid : Grid} {origin n : ℕ} {moves : List LoadMoves} (m : Modelled g
   pub grid-fits : GridFits grid
   grid-fits =
       let g = m .grid-is in
-      let few = rows-few (m .r) n (m .slots) (m .ready .for) (m .some-load) (m .some-slot) (omega (arith, g .cells-are, g .cells-fit)) in
+      let few = rows-few (m .r) n (m .ready .some-ratio) (m .some-load) (m .slots) (m .ready .for) (m .some-slot) (omega (arith, g .cells-are, g .cells-fit)) in
       record {
         slots-fit = omega (arith, g .slots-are, g .slots-fit);
-        tops-fit = λ t l. let e : 0 + t ≡ t = omega arith in rw e at (tops-some (grid .tops) 0 (m .slots) (g .tops-are) t (omega (arith, g .slots-are)));
+        tops-fit = λ t l. omega (arith, g .each t (omega (arith, g .slots-are)) .top-is);
         area = area ∙ sym (g .cells-are);
         rows-fit = omega (arith, g .rows-are);
         width-fits = omega (arith, width-in, g .cells-fit);
         cells-fit = g .cells-fit;
       }
 
-  tried-is : {k : ℕ} {v : Setting} {mv : SettingMove} → MoveIs (m .r) (m .slots) k v mv → (row : ℕ) → tried grid mv row ≡ coversAll (m .slots) (settingGrids (m .slots) v) row
+  tried-is : {k : ℕ} {v : Setting} {mv : SettingMove} → MoveIs (m .slots) k v mv → (row : ℕ) → tried grid mv row ≡ coversAll (m .slots) (settingGrids (m .slots) v) row
   unfolding tried
   tried-is {k} {v} {mv} x row =
       ap (λ j. coversFrom (grid .tops) (mv .active) 0 j row) (m .grid-is .slots-are)
-      ∙ covers-is (grid .tops) (mv .active) (m .slots) v 0 row (m .grid-is .tops-are) (x .actives-are)
+      ∙ covers-is (grid .tops) (mv .active) (m .slots) v 0 row (λ i l. ap (λ k. getD (grid .tops) k 0) (zero-add i) ∙ m .grid-is .each i l .top-is) (x .actives-are)
 
-  move-fits : {k : ℕ} {v : Setting} {mv : SettingMove} → MoveIs (m .r) (m .slots) k v mv → MoveFits grid mv
+  move-fits : {k : ℕ} {v : Setting} {mv : SettingMove} → MoveIs (m .slots) k v mv → MoveFits grid mv
   move-fits {k} {v} x = record {
     back-fits = λ row e. omega (arith, x .back-is, covers-le (m .slots) v row (true-test (coversAll (m .slots) (settingGrids (m .slots) v) row) (sym (tried-is x row) ∙ e)));
     up-fits = x .up-fits;
@@ -118,7 +120,7 @@ module _ {grid : Grid} {origin n : ℕ} {moves : List LoadMoves} (m : Modelled g
       every-at (SettingBelow 65535) (getD (m .loads) k []) noSetting
       (every-at (Every (SettingBelow 65535)) (m .loads) [] (m .small) k (omega (arith, m .loads-are))) i h
 
-  pub load-room : {ws lows highs : List ℕ} {k cur : ℕ} → k < n → LayerIs ws lows highs grid origin n moves m k cur → LoadRoom ws lows highs grid cur (movesOf moves k)
+  pub load-room : {ws lows highs : List ℕ} {k cur : ℕ} → k < n → LayerIs ws lows highs grid n moves m k cur → LoadRoom ws lows highs grid cur (movesOf moves k)
   load-room {ws} {lows} {highs} {k} {cur} l layer = record {
     top = 65535 * k;
     unit = 4 ^ k;
@@ -132,31 +134,31 @@ module _ {grid : Grid} {origin n : ℕ} {moves : List LoadMoves} (m : Modelled g
         omega (arith, mul-le-mul-right (4 ^ k) o, x .each i (omega (arith, x .count-is)) .digit-is, x .each j (omega (arith, x .count-is)) .digit-is);
   }
     where
-      x : LoadIs (m .r) (m .slots) k (getD (m .loads) k []) (movesOf moves k)
+      x : LoadIs (m .slots) k (getD (m .loads) k []) (movesOf moves k)
       x = m .each k l
 
       long : length (take k (m .loads)) ≡ k
       long = length-take-le k (m .loads) (omega (arith, m .loads-are))
 
-      bounded : (i : ℕ) → Bounded (65535 * k) (4 ^ k) (cellBest (suc (m .r)) (m .slots) (take k (m .loads)) i)
-      bounded i = subst (λ j. Bounded (65535 * j) (4 ^ j) (cellBest (suc (m .r)) (m .slots) (take k (m .loads)) i)) long
-          (cell-bounded 65535 (suc (m .r)) (m .slots) (take k (m .loads)) (every-take (Every (SettingBelow 65535)) k (m .loads) (m .small)) i)
+      bounded : (i : ℕ) → Bounded (65535 * k) (4 ^ k) (cellBest (m .slots) (take k (m .loads)) i)
+      bounded i = subst (λ j. Bounded (65535 * j) (4 ^ j) (cellBest (m .slots) (take k (m .loads)) i)) long
+          (cell-bounded 65535 (m .slots) (take k (m .loads)) (every-take (Every (SettingBelow 65535)) k (m .loads) (m .small)) i)
 
       powers : 4 ^ suc k ≤ 4 ^ mostLoads
       powers = let few : suc k ≤ mostLoads = omega (arith, m .loads-fit) in let four : 0 < 4 = omega arith in pow-le-pow-right four few
 
   -- ---- what a setting offers
 
-  module _ {ws lows highs : List ℕ} {k cur : ℕ} (l : k < n) (layer : LayerIs ws lows highs grid origin n moves m k cur) (row col : ℕ) (a : row < grid .rows) where
+  module _ {ws lows highs : List ℕ} {k cur : ℕ} (l : k < n) (layer : LayerIs ws lows highs grid n moves m k cur) (row col : ℕ) (a : row < grid .rows) where
     -- the column from which a setting comes, and whether there is one
-    shift-column : {v : Setting} {mv : SettingMove} → MoveIs (m .r) (m .slots) k v mv
-        → col + mv .down - mv .up ≡ col + columnDown (suc (m .r)) (m .slots) (settingGrids (m .slots) v) - columnUp (suc (m .r)) (m .slots) (settingGrids (m .slots) v)
+    shift-column : {v : Setting} {mv : SettingMove} → MoveIs (m .slots) k v mv
+        → col + mv .down - mv .up ≡ col + columnDown (m .slots) (settingGrids (m .slots) v) - columnUp (m .slots) (settingGrids (m .slots) v)
     shift-column x = omega (arith, x .shift-is)
 
-    shift-test : {v : Setting} {mv : SettingMove} → MoveIs (m .r) (m .slots) k v mv
-        → leb (mv .up) (col + mv .down) ≡ leb (columnUp (suc (m .r)) (m .slots) (settingGrids (m .slots) v)) (col + columnDown (suc (m .r)) (m .slots) (settingGrids (m .slots) v))
+    shift-test : {v : Setting} {mv : SettingMove} → MoveIs (m .slots) k v mv
+        → leb (mv .up) (col + mv .down) ≡ leb (columnUp (m .slots) (settingGrids (m .slots) v)) (col + columnDown (m .slots) (settingGrids (m .slots) v))
     shift-test {v} {mv} x =
-        same-test (mv .up) (mv .down) (columnUp (suc (m .r)) (m .slots) (settingGrids (m .slots) v)) (columnDown (suc (m .r)) (m .slots) (settingGrids (m .slots) v)) (x .shift-is)
+        same-test (mv .up) (mv .down) (columnUp (m .slots) (settingGrids (m .slots) v)) (columnDown (m .slots) (settingGrids (m .slots) v)) (x .shift-is)
       where
         same-test : (u d u′ d′ : ℕ) → u + d′ ≡ d + u′ → leb u (col + d) ≡ leb u′ (col + d′)
         same-test u d u′ d′ e =
@@ -164,26 +166,26 @@ module _ {grid : Grid} {origin n : ℕ} {moves : List LoadMoves} (m : Modelled g
             (λ (b : u ≤ col + d). le-leb u (col + d) b ∙ sym (le-leb u′ (col + d′) (omega arith)))
             (split (col + d) u)
 
-    source-is : {v : Setting} {mv : SettingMove} → MoveIs (m .r) (m .slots) k v mv
+    source-is : {v : Setting} {mv : SettingMove} → MoveIs (m .slots) k v mv
         → sourceOf ws lows highs grid cur mv row col
-        ≡ cond (sourceTest (suc (m .r)) (m .slots) v row col) (cellBest (suc (m .r)) (m .slots) (take k (m .loads)) (sourceCell (suc (m .r)) (m .slots) v row col)) none
+        ≡ cond (sourceTest (m .slots) v row col) (cellBest (m .slots) (take k (m .loads)) (sourceCell (m .slots) v row col)) none
     unfolding sourceOf
     source-is {v} {mv} x =
         cond-same (tried grid mv row && (leb (mv .up) (col + mv .down) && ltb (col + mv .down - mv .up) (grid .width)))
         (held ws lows highs cur (grid .width) (row - mv .back) (col + mv .down - mv .up))
-        (cellBest (suc (m .r)) (m .slots) (take k (m .loads)) (sourceCell (suc (m .r)) (m .slots) v row col))
+        (cellBest (m .slots) (take k (m .loads)) (sourceCell (m .slots) v row col))
         (λ e. layer .cell (row - mv .back) (col + mv .down - mv .up) (omega arith)
         (source-column grid mv row col e)
-        ∙ ap (cellBest (suc (m .r)) (m .slots) (take k (m .loads)))
+        ∙ ap (cellBest (m .slots) (take k (m .loads)))
         (λ i. (row - x .back-is i) * m .grid-is .width-is i + shift-column x i))
-        ∙ ap (λ t. cond t (cellBest (suc (m .r)) (m .slots) (take k (m .loads)) (sourceCell (suc (m .r)) (m .slots) v row col)) none)
+        ∙ ap (λ t. cond t (cellBest (m .slots) (take k (m .loads)) (sourceCell (m .slots) v row col)) none)
         (λ i. tried-is x row i && (shift-test x i && ltb (shift-column x i) (m .grid-is .width-is i)))
 
     offer-is : (i : ℕ) → i < length (getD (m .loads) k [])
         → offerOf ws lows highs grid cur (movesOf moves k) row col i
         ≡ step k (getD (getD (m .loads) k []) i noSetting)
-        (cond (sourceTest (suc (m .r)) (m .slots) (getD (getD (m .loads) k []) i noSetting) row col)
-        (cellBest (suc (m .r)) (m .slots) (take k (m .loads)) (sourceCell (suc (m .r)) (m .slots) (getD (getD (m .loads) k []) i noSetting) row col)) none)
+        (cond (sourceTest (m .slots) (getD (getD (m .loads) k []) i noSetting) row col)
+        (cellBest (m .slots) (take k (m .loads)) (sourceCell (m .slots) (getD (getD (m .loads) k []) i noSetting) row col)) none)
     unfolding offerOf
     offer-is i h =
         let x = m .each k l .each i h in
@@ -192,28 +194,28 @@ module _ {grid : Grid} {origin n : ℕ} {moves : List LoadMoves} (m : Modelled g
 
     -- the cell after load k + 1
     pub cell-is : col < grid .width → joinUpto (movesOf moves k .count) (offerOf ws lows highs grid cur (movesOf moves k) row col)
-        ≡ cellBest (suc (m .r)) (m .slots) (take (suc k) (m .loads)) (row * grid .width + col)
+        ≡ cellBest (m .slots) (take (suc k) (m .loads)) (row * grid .width + col)
     cell-is b =
         ap (λ c. joinUpto c (offerOf ws lows highs grid cur (movesOf moves k) row col)) (m .each k l .count-is)
         ∙ join-same (length vs) (offerOf ws lows highs grid cur (movesOf moves k) row col) (λ i. step k (getD vs i noSetting) (old (getD vs i noSetting))) offer-is
         ∙ sym (over-upto k noSetting old vs)
         ∙ sym (rows-step (m .r) n (m .slots) (m .loads) (m .ready) k (omega (arith, m .loads-are)) row col (omega (arith, m .grid-is .width-is)))
-        ∙ ap (λ w. cellBest (suc (m .r)) (m .slots) (take (suc k) (m .loads)) (row * w + col)) (sym (m .grid-is .width-is))
+        ∙ ap (λ w. cellBest (m .slots) (take (suc k) (m .loads)) (row * w + col)) (sym (m .grid-is .width-is))
       where
         vs : Settings
         vs = getD (m .loads) k []
 
         old : Setting → Option Key
-        old v = cond (sourceTest (suc (m .r)) (m .slots) v row col) (cellBest (suc (m .r)) (m .slots) (take k (m .loads)) (sourceCell (suc (m .r)) (m .slots) v row col)) none
+        old v = cond (sourceTest (m .slots) v row col) (cellBest (m .slots) (take k (m .loads)) (sourceCell (m .slots) v row col)) none
 
-  pub layer-next : {ws ws′ lows highs lows′ highs′ : List ℕ} {k cur next : ℕ} → k < n → LayerIs ws lows highs grid origin n moves m k cur
-      → LayerMade ws ws′ lows highs lows′ highs′ grid cur next (movesOf moves k) (grid .rows) → LayerIs ws′ lows′ highs′ grid origin n moves m (k + 1) next
+  pub layer-next : {ws ws′ lows highs lows′ highs′ : List ℕ} {k cur next : ℕ} → k < n → LayerIs ws lows highs grid n moves m k cur
+      → LayerMade ws ws′ lows highs lows′ highs′ grid cur next (movesOf moves k) (grid .rows) → LayerIs ws′ lows′ highs′ grid n moves m (k + 1) next
   layer-next {k = k} l layer made = rw (add-one k) (record { cell = λ row col a b. made .inside row col a b ∙ cell-is l layer row col a b })
 
   -- how many cells of the layer hold something
-  pub layer-count : {ws lows highs : List ℕ} {k cur : ℕ} → LayerIs ws lows highs grid origin n moves m k cur
+  pub layer-count : {ws lows highs : List ℕ} {k cur : ℕ} → LayerIs ws lows highs grid n moves m k cur
       → countRows (grid .rows) (grid .width) (held ws lows highs cur (grid .width))
-      ≡ countUpto (cellCount (suc (m .r)) (m .slots)) (λ i. isSome (cellBest (suc (m .r)) (m .slots) (take k (m .loads)) i))
+      ≡ countUpto (cellCount (m .slots)) (λ i. isSome (cellBest (m .slots) (take k (m .loads)) i))
   layer-count {ws} {lows} {highs} {k} {cur} layer =
-      count-rows (grid .rows) (grid .width) (cellBest (suc (m .r)) (m .slots) (take k (m .loads))) (held ws lows highs cur (grid .width)) (layer .cell)
-      ∙ ap (λ c. countUpto c (λ i. isSome (cellBest (suc (m .r)) (m .slots) (take k (m .loads)) i))) area
+      count-rows (grid .rows) (grid .width) (cellBest (m .slots) (take k (m .loads))) (held ws lows highs cur (grid .width)) (layer .cell)
+      ∙ ap (λ c. countUpto c (λ i. isSome (cellBest (m .slots) (take k (m .loads)) i))) area

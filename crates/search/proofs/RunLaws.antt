@@ -26,7 +26,7 @@ use Rattle.model.proofs.TableLaws.{range-grids, within-all, reached-cells}
 use Rattle.model.proofs.LoopLaws.{range-none, cells-none, ready-take, trials-step}
 use Rattle.table.specs.Table.{cellAt, putAt, keyOf, Rows}
 use Rattle.table.proofs.WordLaws.{get-same, get-other, length-put}
-use Rattle.stretch.specs.declared.Grid.{Grid}
+use Rattle.grid.specs.declared.Grid.{Grid}
 use Rattle.stretch.specs.declared.LoadMoves.{LoadMoves}
 use Rattle.stretch.specs.Stretch.{StretchesFit, EmptyFrom}
 use Rattle.rows.specs.Row.{held, LoadRoom}
@@ -69,69 +69,69 @@ reached-none slots = go (inRange slots []) (subst T (sym (range-grids slots []))
     go true h = refl
     go false h = absurd h
 
-module _ {grid : Grid} {origin n : ℕ} {moves : List LoadMoves} (m : Modelled grid origin n moves) where
-  pub origin-in : origin < grid .width
+module _ {grid : Grid} {n : ℕ} {moves : List LoadMoves} (m : Modelled grid n moves) where
+  pub origin-in : grid .origin < grid .width
   origin-in =
       omega (
         arith,
-        m .origin-is,
+        m .grid-is .origin-is,
         m .grid-is .width-is,
-        column-below (suc (m .r)) (m .slots) (gridsOf (m .slots) []) (within-all (m .r) n (m .slots) (m .ready .for) [] (omega arith) tt (range-none (m .slots))),
+        column-below (m .slots) (gridsOf (m .slots) []) (within-all (m .r) n (m .ready .some-ratio) (m .slots) (m .ready .for) [] (omega arith) tt (range-none (m .slots))),
       )
 
-  pub origin-room : (ws : List ℕ) → 4 * grid .cells ≤ length ws → 2 * origin + 1 < length ws
+  pub origin-room : (ws : List ℕ) → 4 * grid .cells ≤ length ws → 2 * grid .origin + 1 < length ws
   origin-room ws h = omega (arith, origin-in, width-in m)
 
-  index-none : indexOf (suc (m .r)) (m .slots) (gridsOf (m .slots) []) ≡ origin
+  index-none : indexOf (m .slots) (gridsOf (m .slots) []) ≡ grid .origin
   index-none =
-      ap (λ x. x * columnCount (suc (m .r)) (m .slots) + columnIndex (suc (m .r)) (m .slots) (gridsOf (m .slots) [])) (row-none (m .slots))
-      ∙ (omega (arith, m .origin-is))
+      ap (λ x. x * columnCount (m .slots) + columnIndex (m .slots) (gridsOf (m .slots) [])) (row-none (m .slots))
+      ∙ (omega (arith, m .grid-is .origin-is))
 
-  first-cell : (i : ℕ) → cellBest (suc (m .r)) (m .slots) [] i ≡ firstKey origin i
-  first-cell i = cells-none (suc (m .r)) (m .slots) i ∙ ap (λ j. firstKey j i) index-none
+  first-cell : (i : ℕ) → cellBest (m .slots) [] i ≡ firstKey (grid .origin) i
+  first-cell i = cells-none (m .slots) i ∙ ap (λ j. firstKey j i) index-none
 
   -- row 0 holds the origin alone, and every other row nothing
-  module _ (ws ws₀ lows highs : List ℕ) (put : ws ≡ putAt ws₀ origin firstCell) (room : 2 * origin + 1 < length ws₀)
-      (low-first : getD lows 0 0 ≡ origin) (high-first : getD highs 0 0 ≡ origin + 1) (blank : EmptyFrom lows highs 1) where
+  module _ (ws ws₀ lows highs : List ℕ) (put : ws ≡ putAt ws₀ (grid .origin) firstCell) (room : 2 * grid .origin + 1 < length ws₀)
+      (low-first : getD lows 0 0 ≡ grid .origin) (high-first : getD highs 0 0 ≡ grid .origin + 1) (blank : EmptyFrom lows highs 1) where
     low-rest : (row : ℕ) → getD lows (suc row) 0 ≡ 0
     low-rest row = blank .no-low (suc row) (omega arith)
 
     high-rest : (row : ℕ) → getD highs (suc row) 0 ≡ 0
     high-rest row = blank .no-high (suc row) (omega arith)
 
-    first-row : (col : ℕ) → held ws lows highs 0 (grid .width) 0 col ≡ firstKey origin (0 * grid .width + col)
+    first-row : (col : ℕ) → held ws lows highs 0 (grid .width) 0 col ≡ firstKey (grid .origin) (0 * grid .width + col)
     unfolding held
     first-row col =
         let z : 0 + 0 * grid .width ≡ 0 = omega arith in
         let y : 0 * grid .width + col ≡ col = omega arith in
         rw (low-first, high-first, z, y)
         (⊎-elim
-        (λ (h : col < origin). held-low ws 0 origin (origin + 1) col h ∙ first-none origin col (λ e. omega arith))
-        (λ (h : origin ≤ col). ⊎-elim
-        (λ (k : col < origin + 1).
-        let e : 0 + col ≡ origin = omega arith in
-        held-in ws 0 origin (origin + 1) col h k
+        (λ (h : col < grid .origin). held-low ws 0 (grid .origin) (grid .origin + 1) col h ∙ first-none (grid .origin) col (λ e. omega arith))
+        (λ (h : grid .origin ≤ col). ⊎-elim
+        (λ (k : col < grid .origin + 1).
+        let e : 0 + col ≡ grid .origin = omega arith in
+        held-in ws 0 (grid .origin) (grid .origin + 1) col h k
         ∙ ap (λ x. keyOf (cellAt ws x)) e
-        ∙ ap (λ x. keyOf (cellAt x origin)) put
-        ∙ ap keyOf (get-same ws₀ origin firstCell room)
+        ∙ ap (λ x. keyOf (cellAt x (grid .origin))) put
+        ∙ ap keyOf (get-same ws₀ (grid .origin) firstCell room)
         ∙ key-first
-        ∙ first-here origin col (omega arith))
-        (λ (k : origin + 1 ≤ col). held-high ws 0 origin (origin + 1) col k ∙ first-none origin col (λ e. omega arith))
-        (split col (origin + 1)))
-        (split col origin))
+        ∙ first-here (grid .origin) col (omega arith))
+        (λ (k : grid .origin + 1 ≤ col). held-high ws 0 (grid .origin) (grid .origin + 1) col k ∙ first-none (grid .origin) col (λ e. omega arith))
+        (split col (grid .origin + 1)))
+        (split col (grid .origin)))
 
-    other-row : (row col : ℕ) → held ws lows highs 0 (grid .width) (suc row) col ≡ firstKey origin (suc row * grid .width + col)
+    other-row : (row col : ℕ) → held ws lows highs 0 (grid .width) (suc row) col ≡ firstKey (grid .origin) (suc row * grid .width + col)
     unfolding held
     other-row row col =
         rw (low-rest row, high-rest row)
         (held-high ws (0 + suc row * grid .width) 0 0 col (omega arith)
-        ∙ first-none origin (suc row * grid .width + col) (λ e. omega (arith, origin-in, suc-mul row (grid .width))))
+        ∙ first-none (grid .origin) (suc row * grid .width + col) (λ e. omega (arith, origin-in, suc-mul row (grid .width))))
 
-    pub layer-first : LayerIs ws lows highs grid origin n moves m 0 0
+    pub layer-first : LayerIs ws lows highs grid n moves m 0 0
     layer-first = record { cell = cell }
       where
         cell : (row col : ℕ) → row < grid .rows → col < grid .width
-            → held ws lows highs 0 (grid .width) row col ≡ cellBest (suc (m .r)) (m .slots) [] (row * grid .width + col)
+            → held ws lows highs 0 (grid .width) row col ≡ cellBest (m .slots) [] (row * grid .width + col)
         cell zero col a b = first-row col ∙ sym (first-cell (0 * grid .width + col))
         cell (suc row) col a b = other-row row col ∙ sym (first-cell (suc row * grid .width + col))
 
@@ -144,7 +144,7 @@ module _ {grid : Grid} {origin n : ℕ} {moves : List LoadMoves} (m : Modelled g
     first-high zero l = omega (arith, high-first, origin-in)
     first-high (suc row) l = omega (arith, high-rest row)
 
-    pub run-first : length lows ≡ mostRows → length highs ≡ mostRows → Run ws ws lows highs grid origin n moves m 0 0 1 0
+    pub run-first : length lows ≡ mostRows → length highs ≡ mostRows → Run ws ws lows highs grid n moves m 0 0 1 0
     run-first a b = record {
       places = record {
         same-length = refl;
@@ -163,7 +163,7 @@ module _ {grid : Grid} {origin n : ℕ} {moves : List LoadMoves} (m : Modelled g
   -- ---- one load more
 
   module _ {ws ws₁ lows highs : List ℕ} {k cur reached trials : ℕ} (l : k < n) (room : 4 * grid .cells ≤ length ws)
-      (run : Run ws ws₁ lows highs grid origin n moves m k cur reached trials) where
+      (run : Run ws ws₁ lows highs grid n moves m k cur reached trials) where
     pub run-cur : cur ≤ grid .cells
     run-cur = ⊎-elim (λ (e : cur ≡ 0). omega arith) (λ (e : cur ≡ grid .cells). omega arith) (run .places .side)
 
@@ -193,7 +193,7 @@ module _ {grid : Grid} {origin n : ℕ} {moves : List LoadMoves} (m : Modelled g
     pub run-more : {ws₂ lows′ highs′ : List ℕ} {t reached′ : ℕ} → t ≡ reached * movesOf moves k .count
         → (k + 1 < n → reached′ ≡ countRows (grid .rows) (grid .width) (held ws₂ lows′ highs′ (grid .cells - cur) (grid .width)))
         → LayerMade ws₁ ws₂ lows highs lows′ highs′ grid cur (grid .cells - cur) (movesOf moves k) (grid .rows)
-        → Run ws ws₂ lows′ highs′ grid origin n moves m (k + 1) (grid .cells - cur) reached′ (trials + t)
+        → Run ws ws₂ lows′ highs′ grid n moves m (k + 1) (grid .cells - cur) reached′ (trials + t)
     run-more e c made = record {
       places = record {
         same-length = made .same-length ∙ run .places .same-length;
@@ -228,13 +228,13 @@ module _ {grid : Grid} {origin n : ℕ} {moves : List LoadMoves} (m : Modelled g
 
   -- ---- the end
 
-  pub stopped : {ws lows highs : List ℕ} {k cur : ℕ} (t budget : ℕ) → k < n → t ≡ trialsOf m (suc k) → budget < t → Searched ws lows highs grid origin n moves m budget cur t
+  pub stopped : {ws lows highs : List ℕ} {k cur : ℕ} (t budget : ℕ) → k < n → t ≡ trialsOf m (suc k) → budget < t → Searched ws lows highs grid n moves m budget cur t
   stopped t budget l e h = record { within = λ a. absurd (omega arith); over = λ a. run-over t budget l e h }
 
-  pub ended : {ws ws₁ lows highs : List ℕ} {k cur reached trials : ℕ} (budget : ℕ) → k ≤ n → n ≤ k → Run ws ws₁ lows highs grid origin n moves m k cur reached trials
-      → Searched ws₁ lows highs grid origin n moves m budget cur trials
+  pub ended : {ws ws₁ lows highs : List ℕ} {k cur reached trials : ℕ} (budget : ℕ) → k ≤ n → n ≤ k → Run ws ws₁ lows highs grid n moves m k cur reached trials
+      → Searched ws₁ lows highs grid n moves m budget cur trials
   ended {ws} {ws₁} {lows} {highs} {k} {cur} {reached} {trials} budget h o run =
-      let q : Run ws ws₁ lows highs grid origin n moves m n cur reached trials = subst (λ (j : ℕ). Run ws ws₁ lows highs grid origin n moves m j cur reached trials) (le-antisymm h o) run in
+      let q : Run ws ws₁ lows highs grid n moves m n cur reached trials = subst (λ (j : ℕ). Run ws ws₁ lows highs grid n moves m j cur reached trials) (le-antisymm h o) run in
       record { within = λ a. (q .trials-are, q .layer); over = λ a. omega (arith, q .trials-are) }
 
 -- the stretches of the first layer: a number at row 0, and 0 at every other

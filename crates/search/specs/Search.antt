@@ -1,20 +1,20 @@
 -- The passes of all loads: of which slots and loads the numbers of the code speak, and what the layers and the trials then are.
-use Prim.Native.Nat.{ℕ, suc, _+_, _*_, _<_, _≤_}
+use Prim.Native.Nat.{ℕ, _+_, _*_, _<_, _≤_}
 use mathlib.Core.Path.{_≡_}
 use mathlib.Core.Logic.{_⊎_}
-use mathlib.Core.List.{List, [], _∷_}
+use mathlib.Core.List.{List, []}
 use lib.ListN.{length, getD, take}
 use Rattle.model.specs.Lists.{Every}
-use Rattle.model.specs.Bounds.{mostSlots, mostLoads, mostCells, mostRows}
+use Rattle.model.specs.Bounds.{mostLoads, mostRows}
 use Rattle.model.specs.Book.{Settings}
-use Rattle.model.specs.Grid.{Slot, gridsOf}
-use Rattle.model.specs.Trials.{gridTop, trialsUpto}
+use Rattle.model.specs.Grid.{Slot}
+use Rattle.model.specs.Trials.{trialsUpto}
 use Rattle.model.specs.Valid.{Ready, SettingBelow}
-use Rattle.model.specs.Index.{columnIndex, rowCount, columnCount, cellCount}
 use Rattle.model.specs.Cells.{cellBest}
 use Rattle.table.specs.declared.Cell.{Cell}
 use Rattle.table.specs.Table.{cellAt}
-use Rattle.stretch.specs.declared.Grid.{Grid}
+use Rattle.grid.specs.declared.Grid.{Grid}
+use Rattle.grid.specs.Geometry.{GridIs}
 use Rattle.stretch.specs.declared.LoadMoves.{LoadMoves}
 use Rattle.rows.specs.Row.{held}
 use Rattle.pass.specs.Pass.{countRows}
@@ -22,23 +22,8 @@ use Rattle.moves.specs.Moves.{movesOf, LoadIs}
 
 -- ---- the numbers of the code
 
--- from place t on, how many values a has in each slot: R + 1
-abbrev pub TopsAre : List ℕ → ℕ → List Slot → Type 0
-TopsAre tops t [] = Unit {0}
-TopsAre tops t (s ∷ slots) = (getD tops t 0 ≡ gridTop s + 1) × TopsAre tops (t + 1) slots
-
--- the grid is that of the slots, at ratio r + 1
-pub record GridIs (r : ℕ) (slots : List Slot) (grid : Grid) : Type 0 where
-  pub slots-are : grid .slots ≡ length slots
-  pub slots-fit : length slots ≤ mostSlots
-  pub tops-are : TopsAre (grid .tops) 0 slots
-  pub rows-are : grid .rows ≡ rowCount slots
-  pub width-is : grid .width ≡ columnCount (suc r) slots
-  pub cells-are : grid .cells ≡ cellCount (suc r) slots
-  pub cells-fit : grid .cells ≤ mostCells
-
--- the slots and loads of the definitions of which the numbers of the code speak: n loads, at ratio r + 1; `origin` is the column of no power
-pub record Modelled (grid : Grid) (origin n : ℕ) (moves : List LoadMoves) : Type 0 where
+-- the slots and loads of the definitions of which the numbers of the code speak: n loads, at ratio r
+pub record Modelled (grid : Grid) (n : ℕ) (moves : List LoadMoves) : Type 0 where
   pub r : ℕ
   pub slots : List Slot
   pub loads : List Settings
@@ -48,9 +33,8 @@ pub record Modelled (grid : Grid) (origin n : ℕ) (moves : List LoadMoves) : Ty
   pub some-load : 0 < n
   pub some-slot : 0 < length slots
   pub small : Every (Every (SettingBelow 65535)) loads
-  pub grid-is : GridIs r slots grid
-  pub origin-is : origin ≡ columnIndex (suc r) slots (gridsOf slots [])
-  pub each : (k : ℕ) → k < n → LoadIs r slots k (getD loads k []) (movesOf moves k)
+  pub grid-is : GridIs slots grid
+  pub each : (k : ℕ) → k < n → LoadIs slots k (getD loads k []) (movesOf moves k)
 
 -- ---- what the search makes
 
@@ -59,9 +43,9 @@ abbrev pub firstCell : Cell
 firstCell = record { worth = 1; code = 0 }
 
 -- THE LAYER after k loads: each cell holds the best of the choices of the first k loads whose grid pairs are its own
-pub record LayerIs (ws lows highs : List ℕ) (grid : Grid) (origin n : ℕ) (moves : List LoadMoves) (m : Modelled grid origin n moves) (k cur : ℕ) : Type 0 where
+pub record LayerIs (ws lows highs : List ℕ) (grid : Grid) (n : ℕ) (moves : List LoadMoves) (m : Modelled grid n moves) (k cur : ℕ) : Type 0 where
   pub cell : (row col : ℕ) → row < grid .rows → col < grid .width
-      → held ws lows highs cur (grid .width) row col ≡ cellBest (suc (m .r)) (m .slots) (take k (m .loads)) (row * grid .width + col)
+      → held ws lows highs cur (grid .width) row col ≡ cellBest (m .slots) (take k (m .loads)) (row * grid .width + col)
 
 -- where the layers lie, and that nothing beyond them has changed
 pub record Places (ws ws′ lows highs : List ℕ) (grid : Grid) (cur : ℕ) : Type 0 where
@@ -74,17 +58,17 @@ pub record Places (ws ws′ lows highs : List ℕ) (grid : Grid) (cur : ℕ) : T
   pub past : (x : ℕ) → 2 * grid .cells ≤ x → cellAt ws′ x ≡ cellAt ws x
 
 -- the trials of the first k loads
-abbrev pub trialsOf : {grid : Grid} {origin n : ℕ} {moves : List LoadMoves} → Modelled grid origin n moves → ℕ → ℕ
+abbrev pub trialsOf : {grid : Grid} {n : ℕ} {moves : List LoadMoves} → Modelled grid n moves → ℕ → ℕ
 trialsOf m k = trialsUpto (m .slots) (m .loads) k
 
 -- after the first k loads
-pub record Run (ws ws′ lows highs : List ℕ) (grid : Grid) (origin n : ℕ) (moves : List LoadMoves) (m : Modelled grid origin n moves) (k cur reached trials : ℕ) : Type 0 where
+pub record Run (ws ws′ lows highs : List ℕ) (grid : Grid) (n : ℕ) (moves : List LoadMoves) (m : Modelled grid n moves) (k cur reached trials : ℕ) : Type 0 where
   pub places : Places ws ws′ lows highs grid cur
-  pub layer : LayerIs ws′ lows highs grid origin n moves m k cur
+  pub layer : LayerIs ws′ lows highs grid n moves m k cur
   pub reached-is : k < n → reached ≡ countRows (grid .rows) (grid .width) (held ws′ lows highs cur (grid .width))
   pub trials-are : trials ≡ trialsOf m k
 
 -- what the search of n loads gives: the trials, if they are within the budget, and then the last layer; else that they are not
-pub record Searched (ws lows highs : List ℕ) (grid : Grid) (origin n : ℕ) (moves : List LoadMoves) (m : Modelled grid origin n moves) (budget cur trials : ℕ) : Type 0 where
-  pub within : trials ≤ budget → (trials ≡ trialsOf m n) × LayerIs ws lows highs grid origin n moves m n cur
+pub record Searched (ws lows highs : List ℕ) (grid : Grid) (n : ℕ) (moves : List LoadMoves) (m : Modelled grid n moves) (budget cur trials : ℕ) : Type 0 where
+  pub within : trials ≤ budget → (trials ≡ trialsOf m n) × LayerIs ws lows highs grid n moves m n cur
   pub over : budget < trials → budget < trialsOf m n

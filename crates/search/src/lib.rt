@@ -1,6 +1,6 @@
 // The search: the passes of all loads, the layers changing places after each, and the trials counted on the way.
+use grid::Grid;
 use model::Book;
-use stretch::Grid;
 use stretch::LoadMoves;
 use table::Cell;
 ghost use mathlib.Core.Path.{_≡_};
@@ -40,7 +40,6 @@ pub struct Ran {
 fn run_loads(
     work: &mut [u64],
     grid: Grid,
-    origin: usize,
     n: usize,
     moves: [LoadMoves; Book::LOADS],
     budget: usize,
@@ -48,11 +47,11 @@ fn run_loads(
     last: [usize; Grid::ROWS],
 ) -> Ran
     requires { ⌜ 4 * grid .cells ≤ length (now work) ⌝ }
-    requires { ⌜ Modelled grid origin n moves ⌝ }
+    requires { ⌜ Modelled grid n moves ⌝ }
     requires { ⌜ EmptyFrom first last 1 ⌝ }
-    requires { ⌜ ((m : Modelled grid origin n moves) → Run (now work) (now work) first last grid origin n moves m 0 0 1 0) ⌝ }
+    requires { ⌜ ((m : Modelled grid n moves) → Run (now work) (now work) first last grid n moves m 0 0 1 0) ⌝ }
     ensures { λ r. ⌜ Places (now (work .entry)) (now (work .exit)) (r .lows) (r .highs) grid (r .cur) ⌝ }
-    ensures { λ r. ⌜ ((m : Modelled grid origin n moves) → Searched (now (work .exit)) (r .lows) (r .highs) grid origin n moves m budget (r .cur) (r .trials)) ⌝ }
+    ensures { λ r. ⌜ ((m : Modelled grid n moves) → Searched (now (work .exit)) (r .lows) (r .highs) grid n moves m budget (r .cur) (r .trials)) ⌝ }
 {
     let cells = grid.cells;
     let mut lows = first;
@@ -108,21 +107,21 @@ fn run_loads(
 pub fn search(
     work: &mut [u64],
     grid: Grid,
-    origin: usize,
     n: usize,
     moves: [LoadMoves; Book::LOADS],
     budget: usize,
 ) -> Ran
     requires { ⌜ 4 * grid .cells ≤ length (now work) ⌝ }
-    requires { ⌜ Modelled grid origin n moves ⌝ }
+    requires { ⌜ Modelled grid n moves ⌝ }
     ensures { λ _. ⌜ drop (4 * grid .cells) (now (work .exit)) ≡ drop (4 * grid .cells) (now (work .entry)) ⌝ }
     ensures { λ r. ⌜ Places (now (work .entry)) (now (work .exit)) (r .lows) (r .highs) grid (r .cur) ⌝ }
-    ensures { λ r. ⌜ ((m : Modelled grid origin n moves) → Searched (now (work .exit)) (r .lows) (r .highs) grid origin n moves m budget (r .cur) (r .trials)) ⌝ }
+    ensures { λ r. ⌜ ((m : Modelled grid n moves) → Searched (now (work .exit)) (r .lows) (r .highs) grid n moves m budget (r .cur) (r .trials)) ⌝ }
 {
+    let origin = grid.origin;
     let mut lows: [usize; Grid::ROWS] = [0; Grid::ROWS];
     let mut highs: [usize; Grid::ROWS] = [0; Grid::ROWS];
     lows[0] = origin;
     highs[0] = origin + 1;
     start(work, origin);
-    run_loads(work, grid, origin, n, moves, budget, lows, highs)
+    run_loads(work, grid, n, moves, budget, lows, highs)
 }

@@ -13,7 +13,7 @@ use lib.ListN.{getD}
 use Rattle.model.specs.Bounds.{mostCells}
 use Rattle.model.proofs.IntegerLaws.{split}
 use Rattle.stretch.specs.declared.SettingMove.{SettingMove}
-use Rattle.stretch.specs.declared.Grid.{Grid}
+use Rattle.grid.specs.declared.Grid.{Grid}
 use Rattle.stretch.specs.declared.LoadMoves.{LoadMoves}
 use Rattle.stretch.specs.declared.Stretch.{Stretch}
 use Rattle.stretch.specs.Stretch.{coversFrom, tried, moveOf, GridFits, StretchesFit, MoveFits, Clipped, Offers, Part, Joined, Spans}

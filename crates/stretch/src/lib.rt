@@ -1,4 +1,5 @@
-// The table's grid, what a setting does to a cell, and how far a load's settings reach: the stretch of columns of each row, and the rows.
+// What a setting does to a cell, and how far a load's settings reach: the stretch of columns of each row, and the rows.
+use grid::Grid;
 use model::Book;
 use model::Load;
 ghost use mathlib.Core.Path.{_≡_};
@@ -22,20 +23,6 @@ pub struct SettingMove {
 pub struct LoadMoves {
     pub count: usize,
     pub moves: [SettingMove; Load::SETTINGS],
-}
-
-// The table's geometry: its cells, the columns of a row, the rows, and for each slot how many active values it has.
-pub struct Grid {
-    pub cells: usize,
-    pub width: usize,
-    pub rows: usize,
-    pub slots: usize,
-    pub tops: [usize; Book::SLOTS],
-}
-
-impl Grid {
-    // No table of at most 1,048,576 cells has more rows (model/specs/Bounds.antt says why).
-    pub const ROWS: usize = 724;
 }
 
 // The columns from `low` to before `high`; none where low is not below high.

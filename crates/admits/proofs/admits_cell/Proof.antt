@@ -13,64 +13,65 @@ use Rattle.admits.proofs.admits_cell.Statement.{statement}
 use Rattle.admits.proofs.admits_cell.Tie as tie
 
 abbrev Inv-loop : tie.InvT-loop
-Inv-loop row col slots count steps tops widths limits a₀ b₀ t₀ a b t =
+Inv-loop row col count grid limits slots a₀ b₀ t₀ a b t =
     (t ≤ slots) × (slots ≤ 4)
-    × ((h : SlotsHeld slots count steps tops widths limits) → admitsFrom h t a b ≡ admitsAll (h .ss) (gridFrom 1 (h .ss) row col))
+    × ((h : SlotsHeld grid count limits) → admitsFrom h t a b ≡ admitsAll (h .laid .slots) (gridFrom (h .laid .slots) row col))
 
 abbrev μ-loop : tie.MeasureT-loop
-μ-loop row col slots count steps tops widths limits a₀ b₀ t₀ a b t = slots - t
+μ-loop row col count grid limits slots a₀ b₀ t₀ a b t = slots - t
 
 loop-holds : tie.Need-loop-holds Inv-loop μ-loop
-loop-holds c = (omega arith, c .pre .few, λ h. refl)
+loop-holds c = (omega arith, omega (arith, c .pre .laid .is .slots-are, c .pre .laid .is .slots-fit), λ h. refl)
 
 mul-top : tie.Need-mul-top Inv-loop μ-loop
 mul-top c = search needs
 
-array-read-top : tie.Need-array-read-top Inv-loop μ-loop
-array-read-top c = search needs
+element-copy-out-top : tie.Need-element-copy-out-top Inv-loop μ-loop
+element-copy-out-top c = search needs
 
 mul-width : tie.Need-mul-width Inv-loop μ-loop
 mul-width c = search needs
 
-array-read-width : tie.Need-array-read-width Inv-loop μ-loop
-array-read-width c = search needs
+element-copy-out-width : tie.Need-element-copy-out-width Inv-loop μ-loop
+element-copy-out-width c = search needs
+
+mul-depth : tie.Need-mul-depth Inv-loop μ-loop
+mul-depth c = search needs
+
+element-copy-out-depth : tie.Need-element-copy-out-depth Inv-loop μ-loop
+element-copy-out-depth c = search needs
+
+mul-step : tie.Need-mul-step Inv-loop μ-loop
+mul-step c = search needs
+
+element-copy-out-step : tie.Need-element-copy-out-step Inv-loop μ-loop
+element-copy-out-step c = search needs
+
+mul-limit : tie.Need-mul-limit Inv-loop μ-loop
+mul-limit c = search needs
+
+array-read-limit : tie.Need-array-read-limit Inv-loop μ-loop
+array-read-limit c = search needs
 
 rem-admits-pair : tie.Need-rem-admits-pair Inv-loop μ-loop
-rem-admits-pair c = top-some (c .before .before .pre) (c .before .loop .t) (c .loop-test .taken)
+rem-admits-pair c = top-some (c .before .before .before .before .before .before .pre) (c .before .before .before .before .before .loop .t) (c .before .before .before .before .loop-test .taken)
 
 rem-admits-pair-2 : tie.Need-rem-admits-pair-2 Inv-loop μ-loop
-rem-admits-pair-2 c = width-some (c .before .before .pre) (c .before .loop .t) (c .loop-test .taken)
-
-mul-admits-pair : tie.Need-mul-admits-pair Inv-loop μ-loop
-mul-admits-pair c = search needs
-
-array-read-admits-pair : tie.Need-array-read-admits-pair Inv-loop μ-loop
-array-read-admits-pair c = search needs
-
-sub-admits-pair : tie.Need-sub-admits-pair Inv-loop μ-loop
-sub-admits-pair c = omega (arith, top-some (c .before .before .pre) (c .before .loop .t) (c .loop-test .taken))
-
-mul-admits-pair-2 : tie.Need-mul-admits-pair-2 Inv-loop μ-loop
-mul-admits-pair-2 c = search needs
-
-array-read-admits-pair-2 : tie.Need-array-read-admits-pair-2 Inv-loop μ-loop
-array-read-admits-pair-2 c = search needs
+rem-admits-pair-2 c = width-some (c .before .before .before .before .before .before .pre) (c .before .before .before .before .before .loop .t) (c .before .before .before .before .loop-test .taken)
 
 admits-pair-requires : tie.Need-admits-pair-requires Inv-loop μ-loop
-admits-pair-requires c κs =
-    let l = c .before .loop in
-    pair-held (c .before .before .pre) (l .t) (c .loop-test .taken) (l .a) (l .b)
+admits-pair-requires c κs = let l = c .before .before .before .before .before .loop in pair-held (c .before .before .before .before .before .before .pre) (l .t) (c .before .before .before .before .loop-test .taken) (l .a) (l .b)
 
 returns : tie.Need-returns Inv-loop μ-loop
 returns c =
-    let l = c .before .before .before .loop in
-    λ h. from-stop h (l .t) (c .before .before .loop-test .taken) (l .a) (l .b) (c .before .admits-pair .ensures) (not-true _ (c .if1 .taken)) ∙ l .inv .2 h
+    let l = c .before .before .before .before .before .before .before .loop in
+    λ h. from-stop h (l .t) (c .before .before .before .before .before .before .loop-test .taken) (l .a) (l .b) (c .before .admits-pair .ensures) (not-true _ (c .if1 .taken)) ∙ l .inv .2 h
 
 div-a : tie.Need-div-a Inv-loop μ-loop
-div-a c = top-some (c .before .before .before .before .pre) (c .before .before .before .loop .t) (c .before .before .loop-test .taken)
+div-a c = top-some (c .before .before .before .before .before .before .before .before .pre) (c .before .before .before .before .before .before .before .loop .t) (c .before .before .before .before .before .before .loop-test .taken)
 
 div-b : tie.Need-div-b Inv-loop μ-loop
-div-b c = width-some (c .before .before .before .before .pre) (c .before .before .before .loop .t) (c .before .before .loop-test .taken)
+div-b c = width-some (c .before .before .before .before .before .before .before .before .pre) (c .before .before .before .before .before .before .before .loop .t) (c .before .before .before .before .before .before .loop-test .taken)
 
 add-t : tie.Need-add-t Inv-loop μ-loop
 add-t c = search needs
@@ -80,10 +81,10 @@ loop-less c = omega arith
 
 loop-again : tie.Need-loop-again Inv-loop μ-loop
 loop-again c =
-    let l = c .before .before .before .loop in (
+    let l = c .before .before .before .before .before .before .before .loop in (
       omega arith,
       l .inv .1,
-      λ h. sym (from-go h (l .t) (c .before .before .loop-test .taken) (l .a) (l .b) (c .before .admits-pair .ensures) (not-false _ (c .if1 .left))) ∙ l .inv .2 h,
+      λ h. sym (from-go h (l .t) (c .before .before .before .before .before .before .loop-test .taken) (l .a) (l .b) (c .before .admits-pair .ensures) (not-false _ (c .if1 .left))) ∙ l .inv .2 h,
     )
 
 returns-2 : tie.Need-returns-2 Inv-loop μ-loop
@@ -97,16 +98,17 @@ admits-cell-spec =
     μ-loop
     loop-holds
     mul-top
-    array-read-top
+    element-copy-out-top
     mul-width
-    array-read-width
+    element-copy-out-width
+    mul-depth
+    element-copy-out-depth
+    mul-step
+    element-copy-out-step
+    mul-limit
+    array-read-limit
     rem-admits-pair
     rem-admits-pair-2
-    mul-admits-pair
-    array-read-admits-pair
-    sub-admits-pair
-    mul-admits-pair-2
-    array-read-admits-pair-2
     admits-pair-requires
     returns
     div-a

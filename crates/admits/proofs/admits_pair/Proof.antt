@@ -6,15 +6,12 @@ use borrow.Author.Needs.{needs}
 use lib.Dec.{leb}
 use Rattle.model.specs.Choice.{square}
 use Rattle.model.proofs.Squares.{sq-mono}
-use Rattle.admits.proofs.SlotLaws.{raised-small, spread-small}
+use Rattle.admits.proofs.SlotLaws.{spread-small}
 use Rattle.admits.proofs.admits_pair.Statement.{statement}
 use Rattle.admits.proofs.admits_pair.Tie as tie
 
 mul-p : tie.Need-mul-p
 mul-p c = search needs
-
-add-nearest : tie.Need-add-nearest
-add-nearest c = omega (arith, raised-small (c .pre))
 
 sub-nearest : tie.Need-sub-nearest
 sub-nearest c = search needs
@@ -47,7 +44,6 @@ admits-pair-spec =
     tie.close
     (tie.spec
     mul-p
-    add-nearest
     sub-nearest
     mul-nearest
     nearest-requires

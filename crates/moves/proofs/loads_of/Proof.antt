@@ -8,20 +8,20 @@ use lib.ListN.{getD, length, length-set}
 use Rattle.model.specs.Bounds.{mostLoads}
 use Rattle.model.specs.Values.{problemOf}
 use Rattle.model.proofs.HeldLaws.{held-few}
-use Rattle.slots.specs.Slots.{Laid}
-use Rattle.slots.proofs.ArrayLaws.{set-each}
+use Rattle.grid.specs.Geometry.{Laid}
+use Rattle.grid.proofs.ArrayLaws.{set-each}
 use Rattle.moves.specs.Moves.{noMoves, movesOf, LoadIs}
 use Rattle.moves.proofs.LoadLaws.{load-held, unit-small, unit-more}
 use Rattle.moves.proofs.loads_of.Statement.{statement}
 use Rattle.moves.proofs.loads_of.Tie as tie
 
 abbrev Inv-loop : tie.InvT-loop
-Inv-loop slots book loads count moves₀ unit₀ k₀ moves unit k =
+Inv-loop grid book loads moves₀ unit₀ k₀ moves unit k =
     (k ≤ loads) × (loads ≤ mostLoads) × (length moves ≡ mostLoads) × (unit ≡ 4 ^ k)
-    × ((l : Laid slots (book .slots)) (i : ℕ) → i < k → LoadIs 0 (l .slots) i (getD (problemOf book .loads) i []) (movesOf moves i))
+    × ((l : Laid grid) (i : ℕ) → i < k → LoadIs (l .slots) i (getD (problemOf book .loads) i []) (movesOf moves i))
 
 abbrev μ-loop : tie.MeasureT-loop
-μ-loop slots book loads count moves₀ unit₀ k₀ moves unit k = loads - k
+μ-loop grid book loads moves₀ unit₀ k₀ moves unit k = loads - k
 
 no-move-requires : tie.Need-no-move-requires Inv-loop μ-loop
 no-move-requires c κs = search needs
@@ -68,7 +68,7 @@ loop-again c =
       length-set (m .moves) (m .k) (c .moves-of .result) ∙ m .inv .2,
       unit-more (m .unit) (m .k) (m .inv .3),
       λ l.
-          set-each (λ i x. LoadIs 0 (l .slots) i (getD (problemOf (s .args .t1) .loads) i []) x) (m .moves) (m .k) (c .moves-of .result) noMoves (omega arith)
+          set-each (λ i x. LoadIs (l .slots) i (getD (problemOf (s .args .t1) .loads) i []) x) (m .moves) (m .k) (c .moves-of .result) noMoves (omega arith)
           (c .moves-of .ensures (load-held (s .args .t1) (s .pre .0) (m .k) _ (c .before .before .loop-test .taken)) l (m .k) (m .inv .3)) (m .inv .4 l),
     )
 

@@ -5,27 +5,30 @@ use native.Mathlib.Nat.{mul-le-mul}
 use native.Mathlib.Omega.{arith}
 use borrow.Author.Needs.{needs}
 use lib.ListN.{getD, set, length}
+use Rattle.model.specs.Bounds.{mostCells}
 use Rattle.model.specs.Choice.{settingOf}
+use Rattle.model.specs.Trials.{cellCount}
 use Rattle.model.specs.Values.{raised}
-use Rattle.slots.specs.Slots.{Laid}
-use Rattle.slots.proofs.ExtentLaws.{back-one}
+use Rattle.grid.specs.declared.Grid.{Grid}
+use Rattle.grid.specs.Geometry.{Laid}
+use Rattle.grid.proofs.ExtentLaws.{back-one}
 use Rattle.moves.specs.Moves.{LoadHeld}
 use Rattle.moves.proofs.MoveLaws.{Moved, moved-none, moved-more, moved-all, back-fits, up-fits, down-fits, load-few, load-setting, load-q-small, digits-at}
 use Rattle.moves.proofs.move_of.Statement.{statement}
 use Rattle.moves.proofs.move_of.Tie as tie
 
 abbrev Inv-loop : tie.InvT-loop
-Inv-loop c unit count load slots active₀ back₀ up₀ down₀ t₀ active back up down t =
-    (t ≤ count) × (count ≤ 4) × (c < 4) × (length active ≡ 4)
-    × ((h : LoadHeld load) (l : Laid slots count) → Moved (l .slots) (settingOf (h .settings) c) t back up down active)
+Inv-loop c unit load grid active₀ back₀ up₀ down₀ t₀ active back up down t =
+    (t ≤ grid .slots) × (grid .slots ≤ 4) × (c < 4) × (length active ≡ 4)
+    × ((h : LoadHeld load) (l : Laid grid) → Moved (l .slots) (settingOf (h .settings) c) t back up down active)
 
 abbrev μ-loop : tie.MeasureT-loop
-μ-loop c unit count load slots active₀ back₀ up₀ down₀ t₀ active back up down t = t
+μ-loop c unit load grid active₀ back₀ up₀ down₀ t₀ active back up down t = t
 
 loop-holds : tie.Need-loop-holds Inv-loop μ-loop
 loop-holds c =
     let few = load-few (c .args .t1) (c .pre .0) in
-    (omega arith, omega (arith, c .pre .1 .0 .few, c .pre .1 .0 .count-is), omega arith, refl, λ h l. moved-none (l .slots) (settingOf (h .settings) (c .args .c)) (c .args .count) _ (l .count-is) refl)
+    (omega arith, omega (arith, c .pre .1 .0 .is .slots-fit, c .pre .1 .0 .is .slots-are), omega arith, refl, λ h l. moved-none (l .slots) (settingOf (h .settings) (c .args .c)) (c .args .t4 .slots) _ (l .is .slots-are) refl)
 
 sub-t : tie.Need-sub-t Inv-loop μ-loop
 sub-t c = search needs
@@ -70,15 +73,17 @@ div-a : tie.Need-div-a Inv-loop μ-loop
 div-a c =
     let s = c .before .before .before .before .before .before .before in
     let m = c .before .before .before .before .before .before .loop in
-    let e = s .pre .1 .0 .each (m .t - 1) (omega (arith, s .pre .1 .0 .count-is)) in
-    omega (arith, e .step-is, e .step-some)
+    let k : m .t - 1 < length (s .pre .1 .0 .slots) = omega (arith, s .pre .1 .0 .is .slots-are) in
+    omega (arith, s .pre .1 .0 .is .each (m .t - 1) k .step-is, s .pre .1 .0 .sound (m .t - 1) k .step-some)
 
 grid-value-requires : tie.Need-grid-value-requires Inv-loop μ-loop
 grid-value-requires c κs =
     let s = c .before .before .before .before .before .before .before in
     let m = c .before .before .before .before .before .before .loop in
-    let e = s .pre .1 .0 .each (m .t - 1) (omega (arith, s .pre .1 .0 .count-is)) in
-    (load-q-small (s .args .t1) (s .pre .0) (s .args .c) (m .inv .2) (m .t - 1) (omega arith), omega (arith, e .step-is, e .step-some), omega (arith, e .step-is, e .step-small))
+    let k : m .t - 1 < length (s .pre .1 .0 .slots) = omega (arith, s .pre .1 .0 .is .slots-are) in
+    let e = s .pre .1 .0 .is .each (m .t - 1) k .step-is in
+    let f = s .pre .1 .0 .sound (m .t - 1) k in
+    (load-q-small (s .args .t1) (s .pre .0) (s .args .c) (m .inv .2) (m .t - 1) (omega arith), omega (arith, e, f .step-some), omega (arith, e, f .step-small))
 
 mul-active : tie.Need-mul-active Inv-loop μ-loop
 mul-active c = search needs
@@ -86,31 +91,36 @@ mul-active c = search needs
 array-write-active : tie.Need-array-write-active Inv-loop μ-loop
 array-write-active c = search needs
 
+-- the cells of the slots of which a grid speaks
+inside : {v : Grid} (l : Laid v) → cellCount (l .slots) ≤ mostCells
+inside l = omega (arith, l .is .cells-are, l .is .cells-fit)
+
 -- one slot more
-more : (c : tie.After-grid-value Inv-loop μ-loop) (h : LoadHeld (c .before .before .before .before .before .before .before .before .args .t1)) (l : Laid (c .before .before .before .before .before .before .before .before .args .t5) (c .before .before .before .before .before .before .before .before .args .count))
+more : (c : tie.After-grid-value Inv-loop μ-loop) (h : LoadHeld (c .before .before .before .before .before .before .before .before .args .t1)) (l : Laid (c .before .before .before .before .before .before .before .before .args .t4))
     → Moved (l .slots) (settingOf (h .settings) (c .before .before .before .before .before .before .before .before .args .c)) (c .before .before .before .before .before .before .before .loop .t - 1)
-    (c .before .before .before .before .before .before .before .loop .back * getD (c .before .before .before .before .before .before .before .before .args .t5 .tops) (c .before .before .before .before .before .before .before .loop .t - 1) 0 + getD (c .before .before .before .before .before .before .before .before .args .t1 .actives) (4 * c .before .before .before .before .before .before .before .before .args .c + (c .before .before .before .before .before .before .before .loop .t - 1)) 0 / getD (c .before .before .before .before .before .before .before .before .args .t5 .steps) (c .before .before .before .before .before .before .before .loop .t - 1) 0)
-    (c .before .before .before .before .before .before .before .loop .up * getD (c .before .before .before .before .before .before .before .before .args .t5 .widths) (c .before .before .before .before .before .before .before .loop .t - 1) 0 + c .grid-value .result)
-    (c .before .before .before .before .before .before .before .loop .down * getD (c .before .before .before .before .before .before .before .before .args .t5 .widths) (c .before .before .before .before .before .before .before .loop .t - 1) 0 + 32768)
-    (set (c .before .before .before .before .before .before .before .loop .active) (c .before .before .before .before .before .before .before .loop .t - 1) (getD (c .before .before .before .before .before .before .before .before .args .t1 .actives) (4 * c .before .before .before .before .before .before .before .before .args .c + (c .before .before .before .before .before .before .before .loop .t - 1)) 0 / getD (c .before .before .before .before .before .before .before .before .args .t5 .steps) (c .before .before .before .before .before .before .before .loop .t - 1) 0))
+    (c .before .before .before .before .before .before .before .loop .back * getD (c .before .before .before .before .before .before .before .before .args .t4 .tops) (c .before .before .before .before .before .before .before .loop .t - 1) 0 + getD (c .before .before .before .before .before .before .before .before .args .t1 .actives) (4 * c .before .before .before .before .before .before .before .before .args .c + (c .before .before .before .before .before .before .before .loop .t - 1)) 0 / getD (c .before .before .before .before .before .before .before .before .args .t4 .steps) (c .before .before .before .before .before .before .before .loop .t - 1) 0)
+    (c .before .before .before .before .before .before .before .loop .up * getD (c .before .before .before .before .before .before .before .before .args .t4 .widths) (c .before .before .before .before .before .before .before .loop .t - 1) 0 + c .grid-value .result)
+    (c .before .before .before .before .before .before .before .loop .down * getD (c .before .before .before .before .before .before .before .before .args .t4 .widths) (c .before .before .before .before .before .before .before .loop .t - 1) 0 + 32768)
+    (set (c .before .before .before .before .before .before .before .loop .active) (c .before .before .before .before .before .before .before .loop .t - 1) (getD (c .before .before .before .before .before .before .before .before .args .t1 .actives) (4 * c .before .before .before .before .before .before .before .before .args .c + (c .before .before .before .before .before .before .before .loop .t - 1)) 0 / getD (c .before .before .before .before .before .before .before .before .args .t4 .steps) (c .before .before .before .before .before .before .before .loop .t - 1) 0))
 more c h l =
     let s = c .before .before .before .before .before .before .before .before in
     let m = c .before .before .before .before .before .before .before .loop in
     let v = settingOf (h .settings) (s .args .c) in
-    moved-more (l .slots) v (load-setting (s .args .t1) h (s .args .c) (m .inv .2)) (m .t - 1) (omega (arith, l .count-is)) (l .few) _ _ _ _ (m .back) (m .up) (m .down) (m .active)
-    (digits-at (s .args .t1) h (s .args .c) (m .inv .2) (m .t - 1) (omega arith) (s .args .t5) _ (c .grid-value .result) (l .each (m .t - 1) (omega (arith, l .count-is))) (c .grid-value .ensures .0 ∙ ap raised (c .grid-value .ensures .1)))
+    let k : m .t - 1 < length (l .slots) = omega (arith, l .is .slots-are) in
+    moved-more (l .slots) v (load-setting (s .args .t1) h (s .args .c) (m .inv .2)) (m .t - 1) k (l .is .slots-fit) _ _ _ (m .back) (m .up) (m .down) (m .active)
+    (digits-at (s .args .t1) h (s .args .c) (m .inv .2) (m .t - 1) (omega arith) (s .args .t4) _ (c .grid-value .result) (l .is .each (m .t - 1) k) (l .sound (m .t - 1) k .place-is) (c .grid-value .ensures .0 ∙ ap raised (c .grid-value .ensures .1)))
     (back-one (λ t. Moved (l .slots) v t (m .back) (m .up) (m .down) (m .active)) (m .t) (c .before .before .before .before .before .before .loop-test .taken) (m .inv .4 h l))
 
 fits : (c : tie.After-grid-value Inv-loop μ-loop)
-    → (c .before .before .before .before .before .before .before .loop .back * getD (c .before .before .before .before .before .before .before .before .args .t5 .tops) (c .before .before .before .before .before .before .before .loop .t - 1) 0 + getD (c .before .before .before .before .before .before .before .before .args .t1 .actives) (4 * c .before .before .before .before .before .before .before .before .args .c + (c .before .before .before .before .before .before .before .loop .t - 1)) 0 / getD (c .before .before .before .before .before .before .before .before .args .t5 .steps) (c .before .before .before .before .before .before .before .loop .t - 1) 0 ≤ 274877906944)
-    × (c .before .before .before .before .before .before .before .loop .up * getD (c .before .before .before .before .before .before .before .before .args .t5 .widths) (c .before .before .before .before .before .before .before .loop .t - 1) 0 + c .grid-value .result ≤ 274877906944)
-    × (c .before .before .before .before .before .before .before .loop .down * getD (c .before .before .before .before .before .before .before .before .args .t5 .widths) (c .before .before .before .before .before .before .before .loop .t - 1) 0 + 32768 ≤ 274877906944)
+    → (c .before .before .before .before .before .before .before .loop .back * getD (c .before .before .before .before .before .before .before .before .args .t4 .tops) (c .before .before .before .before .before .before .before .loop .t - 1) 0 + getD (c .before .before .before .before .before .before .before .before .args .t1 .actives) (4 * c .before .before .before .before .before .before .before .before .args .c + (c .before .before .before .before .before .before .before .loop .t - 1)) 0 / getD (c .before .before .before .before .before .before .before .before .args .t4 .steps) (c .before .before .before .before .before .before .before .loop .t - 1) 0 ≤ 274877906944)
+    × (c .before .before .before .before .before .before .before .loop .up * getD (c .before .before .before .before .before .before .before .before .args .t4 .widths) (c .before .before .before .before .before .before .before .loop .t - 1) 0 + c .grid-value .result ≤ 274877906944)
+    × (c .before .before .before .before .before .before .before .loop .down * getD (c .before .before .before .before .before .before .before .before .args .t4 .widths) (c .before .before .before .before .before .before .before .loop .t - 1) 0 + 32768 ≤ 274877906944)
 fits c =
     let h = c .before .before .before .before .before .before .before .before .pre .0 in
     let l = c .before .before .before .before .before .before .before .before .pre .1 .0 in
     let v = settingOf (h .settings) (c .before .before .before .before .before .before .before .before .args .c) in
     let r = more c h l in
-    (back-fits (l .slots) v (l .few) (l .fits) _ _ _ _ _ r, up-fits (l .slots) v (l .few) (l .fits) _ _ _ _ _ r, down-fits (l .slots) v (l .few) (l .fits) _ _ _ _ _ r)
+    (back-fits (l .slots) v (l .is .slots-fit) (inside l) _ _ _ _ _ r, up-fits (l .slots) v (l .is .slots-fit) (inside l) _ _ _ _ _ r, down-fits (l .slots) v (l .is .slots-fit) (inside l) _ _ _ _ _ r)
 
 mul-back : tie.Need-mul-back Inv-loop μ-loop
 mul-back c = omega (arith, fits c)
@@ -139,21 +149,21 @@ loop-again c =
     let s = c .before .before .before .before .before .before .before .before in
     (omega arith, m .inv .1, m .inv .2, more c (s .pre .0) (s .pre .1 .0) .active-length, more c)
 
-mul-t37 : tie.Need-mul-t37 Inv-loop μ-loop
-mul-t37 c = search needs
+mul-gain : tie.Need-mul-gain Inv-loop μ-loop
+mul-gain c = search needs
 
-element-copy-out-t40 : tie.Need-element-copy-out-t40 Inv-loop μ-loop
-element-copy-out-t40 c = search needs
+element-copy-out-gain : tie.Need-element-copy-out-gain Inv-loop μ-loop
+element-copy-out-gain c = search needs
 
-mul-t42 : tie.Need-mul-t42 Inv-loop μ-loop
-mul-t42 c = omega (arith, mul-le-mul (c .before .before .loop .inv .2) (c .before .before .before .pre .1 .1 .2))
+mul-digit : tie.Need-mul-digit Inv-loop μ-loop
+mul-digit c = omega (arith, mul-le-mul (c .before .before .loop .inv .2) (c .before .before .before .pre .1 .1 .2))
 
 returns : tie.Need-returns Inv-loop μ-loop
 returns c h l k e =
     let s = c .before .before .before in
     let m = c .before .before .loop in
     let none : m .t ≡ 0 = omega arith in
-    moved-all (s .args .t1) h (s .args .c) (s .args .unit) k (l .slots) (m .back) (m .up) (m .down) (m .active) (s .pre .1 .1 .0) (s .pre .1 .1 .1) e (l .few) (l .fits)
+    moved-all (s .args .t1) h (s .args .c) (s .args .unit) k (l .slots) (m .back) (m .up) (m .down) (m .active) (s .pre .1 .1 .0) (s .pre .1 .1 .1) e (l .is .slots-fit) (inside l)
     (subst (λ t. Moved (l .slots) (settingOf (h .settings) (s .args .c)) t (m .back) (m .up) (m .down) (m .active)) none (m .inv .4 h l))
 
 pub move-of-spec : {M : Type 1} → statement M
@@ -188,7 +198,7 @@ move-of-spec =
     add-down
     loop-less
     loop-again
-    mul-t37
-    element-copy-out-t40
-    mul-t42
+    mul-gain
+    element-copy-out-gain
+    mul-digit
     returns)

@@ -6,8 +6,8 @@ use borrow.Author.Needs.{needs}
 use lib.ListN.{getD, length, length-set}
 use Rattle.model.specs.Choice.{settingOf}
 use Rattle.stretch.specs.Stretch.{noMove}
-use Rattle.slots.specs.Slots.{Laid}
-use Rattle.slots.proofs.ArrayLaws.{set-each}
+use Rattle.grid.specs.Geometry.{Laid}
+use Rattle.grid.proofs.ArrayLaws.{set-each}
 use Rattle.moves.specs.Moves.{MoveIs, LoadHeld}
 use Rattle.moves.proofs.MoveLaws.{load-few}
 use Rattle.moves.proofs.LoadLaws.{load-all}
@@ -15,12 +15,12 @@ use Rattle.moves.proofs.moves_of.Statement.{statement}
 use Rattle.moves.proofs.moves_of.Tie as tie
 
 abbrev Inv-loop : tie.InvT-loop
-Inv-loop load unit count slots least settings moves₀ i₀ moves i =
+Inv-loop load unit grid least settings moves₀ i₀ moves i =
     (i ≤ settings) × (least + settings ≤ 4) × (length moves ≡ 4)
-    × ((h : LoadHeld load) (l : Laid slots count) (k : ℕ) → unit ≡ 4 ^ k → (j : ℕ) → j < i → MoveIs 0 (l .slots) k (settingOf (h .settings) (least + j)) (getD moves j noMove))
+    × ((h : LoadHeld load) (l : Laid grid) (k : ℕ) → unit ≡ 4 ^ k → (j : ℕ) → j < i → MoveIs (l .slots) k (settingOf (h .settings) (least + j)) (getD moves j noMove))
 
 abbrev μ-loop : tie.MeasureT-loop
-μ-loop load unit count slots least settings moves₀ i₀ moves i = settings - i
+μ-loop load unit grid least settings moves₀ i₀ moves i = settings - i
 
 no-move-requires : tie.Need-no-move-requires Inv-loop μ-loop
 no-move-requires c κs = search needs
@@ -55,7 +55,7 @@ loop-again c =
       m .inv .1,
       length-set (m .moves) (m .i) (c .move-of .result) ∙ m .inv .2,
       λ h l k e.
-          set-each (λ j x. MoveIs 0 (l .slots) k (settingOf (h .settings) (c .before .before .before .before .args .load .least + j)) x) (m .moves) (m .i) (c .move-of .result) noMove (omega arith) (c .move-of .ensures h l k e) (m .inv .3 h l k e),
+          set-each (λ j x. MoveIs (l .slots) k (settingOf (h .settings) (c .before .before .before .before .args .load .least + j)) x) (m .moves) (m .i) (c .move-of .result) noMove (omega arith) (c .move-of .ensures h l k e) (m .inv .3 h l k e),
     )
 
 returns : tie.Need-returns Inv-loop μ-loop

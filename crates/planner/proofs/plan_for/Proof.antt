@@ -43,7 +43,7 @@ write-sheet-requires : tie.Need-write-sheet-requires
 write-sheet-requires c κs =
     let s = c .before .before .before .before .before .before .before .before .before .before .before .before in
     let f = c .before .before .before .before .before .before .before .before .search-for in
-    (s .pre .0, (found-picked (s .args .book) (s .pre .0) _ (f .ensures .0) (not-false _ (c .before .before .before .before .if1 .left)) (not-false _ (c .before .before .if2 .left)) _ (c .before .picks-of .ensures), s .pre .1 .1 .1 .1))
+    (s .pre .0, (found-picked (s .args .book) (s .pre .0) _ (f .ensures .0) (not-false _ (c .before .before .before .before .if1 .left)) (not-false _ (c .before .before .if2 .left)) _ (c .before .picks-of .ensures), s .pre .1 .1 .1))
 
 same-length-3 : tie.Need-same-length-3
 same-length-3 c = search needs

@@ -17,7 +17,7 @@ beats-requires c κs = search needs
 returns : tie.Need-returns
 returns c =
     let a = c .before .before .before .before .args in
-    λ h. best-kept (a .best) (c .before .before .get .ensures) (c .before .beats .ensures) (admitsAll (h .ss) (gridFrom 1 (h .ss) (a .row) (a .col))) (not-true _ (c .if1 .taken))
+    λ h. best-kept (a .best) (c .before .before .get .ensures) (c .before .beats .ensures) (admitsAll (h .laid .slots) (gridFrom (h .laid .slots) (a .row) (a .col))) (not-true _ (c .if1 .taken))
 
 admits-cell-requires : tie.Need-admits-cell-requires
 admits-cell-requires c κs = search needs

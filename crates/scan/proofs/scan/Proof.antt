@@ -11,35 +11,35 @@ use Rattle.scan.proofs.scan.Statement.{statement}
 use Rattle.scan.proofs.scan.Tie as tie
 
 abbrev Inv-loop : tie.InvT-loop
-Inv-loop work cur lows highs count steps widths limits rows width slots tops best₀ row₀ best row =
-    (row ≤ rows) × ((h : SlotsHeld slots count steps tops widths limits) → keyOf best ≡ bestOfRows (h .ss) work lows highs cur width row)
+Inv-loop work grid cur lows highs count limits rows width best₀ row₀ best row =
+    (row ≤ rows) × ((h : SlotsHeld grid count limits) → keyOf best ≡ bestOfRows (h .laid .slots) work lows highs cur width row)
 
 abbrev μ-loop : tie.MeasureT-loop
-μ-loop work cur lows highs count steps widths limits rows width slots tops best₀ row₀ best row = rows - row
+μ-loop work grid cur lows highs count limits rows width best₀ row₀ best row = rows - row
 
 loop-holds : tie.Need-loop-holds Inv-loop μ-loop
 loop-holds c =
-    let a = c .before .before .args in
-    (omega arith, λ h. rows-none (h .ss) (a .work .now) (a .lows .now) (a .highs .now) (a .cur) (a .grid .width))
+    let a = c .before .args in
+    (omega arith, λ h. rows-none (h .laid .slots) (a .work .now) (a .lows .now) (a .highs .now) (a .cur) (a .grid .width))
 
 mul-low : tie.Need-mul-low Inv-loop μ-loop
-mul-low c = omega (arith, c .before .before .before .before .pre .0 .rows-fit)
+mul-low c = omega (arith, c .before .before .before .pre .0 .rows-fit)
 
 element-copy-out-low : tie.Need-element-copy-out-low Inv-loop μ-loop
-element-copy-out-low c = omega (arith, c .before .before .before .before .pre .0 .rows-fit)
+element-copy-out-low c = omega (arith, c .before .before .before .pre .0 .rows-fit)
 
 mul-high : tie.Need-mul-high Inv-loop μ-loop
-mul-high c = omega (arith, c .before .before .before .before .before .pre .0 .rows-fit)
+mul-high c = omega (arith, c .before .before .before .before .pre .0 .rows-fit)
 
 element-copy-out-high : tie.Need-element-copy-out-high Inv-loop μ-loop
-element-copy-out-high c = omega (arith, c .before .before .before .before .before .pre .0 .rows-fit)
+element-copy-out-high c = omega (arith, c .before .before .before .before .pre .0 .rows-fit)
 
 -- the row's cells lie within the words
 room : (c : tie.After-high Inv-loop μ-loop)
-    → 2 * (c .before .before .before .before .before .before .args .cur + c .before .before .before .loop .row * c .before .before .before .before .before .before .args .grid .width + getD (c .before .before .before .before .before .before .args .highs .now) (c .before .before .before .loop .row) 0)
-    ≤ length (c .before .before .before .before .before .before .args .work .now)
+    → 2 * (c .before .before .before .before .before .args .cur + c .before .before .before .loop .row * c .before .before .before .before .before .args .grid .width + getD (c .before .before .before .before .before .args .highs .now) (c .before .before .before .loop .row) 0)
+    ≤ length (c .before .before .before .before .before .args .work .now)
 room c =
-    let s = c .before .before .before .before .before .before in
+    let s = c .before .before .before .before .before in
     let l = c .before .before .before .loop in
     let t = c .before .before .loop-test .taken in
     row-room (l .row) (s .args .cur) (s .args .grid) (s .pre .0) (s .pre .1 .0) t (s .pre .1 .1 .0 .high-fits (l .row) t)
@@ -51,7 +51,7 @@ add-scan-row : tie.Need-add-scan-row Inv-loop μ-loop
 add-scan-row c = omega (arith, room c)
 
 scan-row-requires : tie.Need-scan-row-requires Inv-loop μ-loop
-scan-row-requires c κs = (room c, c .before .before .before .before .before .before .pre .1 .1 .1)
+scan-row-requires c κs = (room c, c .before .before .before .before .before .pre .1 .1 .1)
 
 add-row : tie.Need-add-row Inv-loop μ-loop
 add-row c = search needs
@@ -61,20 +61,20 @@ loop-less c = omega arith
 
 loop-again : tie.Need-loop-again Inv-loop μ-loop
 loop-again c =
-    let s = c .before .before .before .before .before .before .before in
+    let s = c .before .before .before .before .before .before in
     let a = s .args in
     let l = c .before .before .before .before .loop in (
       omega arith,
       λ h.
-          rows-more (h .ss) (a .work .now) (a .lows .now) (a .highs .now) (a .cur) (a .grid .width) (l .row) (l .inv .1 h)
+          rows-more (h .laid .slots) (a .work .now) (a .lows .now) (a .highs .now) (a .cur) (a .grid .width) (l .row) (l .inv .1 h)
           (c .scan-row .ensures h (a .grid .width) (s .pre .1 .1 .0 .high-fits (l .row) (c .before .before .before .loop-test .taken))),
     )
 
 returns : tie.Need-returns Inv-loop μ-loop
 returns c =
-    let a = c .before .before .before .before .args in
+    let a = c .before .before .before .args in
     let l = c .before .loop in
-    λ h. rows-all (h .ss) (a .work .now) (a .lows .now) (a .highs .now) (a .grid) (a .cur) (l .row) (c .loop-test .left) (l .inv .0) (l .inv .1 h)
+    λ h. rows-all (h .laid .slots) (a .work .now) (a .lows .now) (a .highs .now) (a .grid) (a .cur) (l .row) (c .loop-test .left) (l .inv .0) (l .inv .1 h)
 
 pub scan-spec : {M : Type 1} → statement M
 scan-spec =

@@ -14,17 +14,17 @@ use Rattle.scan.proofs.scan_row.Statement.{statement}
 use Rattle.scan.proofs.scan_row.Tie as tie
 
 abbrev Inv-loop : tie.InvT-loop
-Inv-loop work at low high row slots count steps tops widths limits best₀ col₀ best col =
+Inv-loop work at low high row grid count limits best₀ col₀ best col =
     (low ≤ col)
-    × ((h : SlotsHeld slots count steps tops widths limits) → keyOf best ≡ join (keyOf best₀) (joinUpto col (admittedIn (h .ss) work at low high row)))
+    × ((h : SlotsHeld grid count limits) → keyOf best ≡ join (keyOf best₀) (joinUpto col (admittedIn (h .laid .slots) work at low high row)))
 
 abbrev μ-loop : tie.MeasureT-loop
-μ-loop work at low high row slots count steps tops widths limits best₀ col₀ best col = high - col
+μ-loop work at low high row grid count limits best₀ col₀ best col = high - col
 
 loop-holds : tie.Need-loop-holds Inv-loop μ-loop
 loop-holds c =
     let a = c .before .args in
-    (omega arith, λ h. row-start (h .ss) (a .work .now) (a .at) (a .low) (a .high) (a .row) (keyOf (a .first)))
+    (omega arith, λ h. row-start (h .laid .slots) (a .work .now) (a .at) (a .low) (a .high) (a .row) (keyOf (a .first)))
 
 add-worth : tie.Need-add-worth Inv-loop μ-loop
 add-worth c = search needs
@@ -58,8 +58,8 @@ loop-again c =
       omega arith,
       λ h.
           ⊎-elim
-          (λ w. ap keyOf (w .2) ∙ row-next (h .ss) (a .work .now) (a .at) (a .low) (a .high) (a .row) (keyOf (a .first)) (l .col) (l .inv .0) k (l .inv .1 h) (w .1 .ensures h))
-          (λ w. ap keyOf (w .1) ∙ row-less (h .ss) (a .work .now) (a .at) (a .low) (a .high) (a .row) (keyOf (a .first)) (l .col) (l .best) (l .inv .0) k (l .inv .1 h) (w .0 .left))
+          (λ w. ap keyOf (w .2) ∙ row-next (h .laid .slots) (a .work .now) (a .at) (a .low) (a .high) (a .row) (keyOf (a .first)) (l .col) (l .inv .0) k (l .inv .1 h) (w .1 .ensures h))
+          (λ w. ap keyOf (w .1) ∙ row-less (h .laid .slots) (a .work .now) (a .at) (a .low) (a .high) (a .row) (keyOf (a .first)) (l .col) (l .best) (l .inv .0) k (l .inv .1 h) (w .0 .left))
           (c .if1 .came),
     )
 
@@ -67,7 +67,7 @@ returns : tie.Need-returns Inv-loop μ-loop
 returns c =
     let a = c .before .before .before .args in
     let l = c .before .loop in
-    λ h width k. row-past (h .ss) (a .work .now) (a .at) (a .low) (a .high) (a .row) (keyOf (a .first)) (l .col) width (c .loop-test .left) k (l .inv .1 h)
+    λ h width k. row-past (h .laid .slots) (a .work .now) (a .at) (a .low) (a .high) (a .row) (keyOf (a .first)) (l .col) width (c .loop-test .left) k (l .inv .1 h)
 
 pub scan-row-spec : {M : Type 1} → statement M
 scan-row-spec =

@@ -16,13 +16,13 @@ use Rattle.search.proofs.run_loads.Statement.{statement}
 use Rattle.search.proofs.run_loads.Tie as tie
 
 abbrev Inv-loop : tie.InvT-loop
-Inv-loop work₀ grid origin n budget moves cells lows₀ highs₀ newlows₀ newhighs₀ trials₀ reached₀ cur₀ used₀ k₀ work lows highs newlows newhighs trials reached cur used k =
+Inv-loop work₀ grid n budget moves cells lows₀ highs₀ newlows₀ newhighs₀ trials₀ reached₀ cur₀ used₀ k₀ work lows highs newlows newhighs trials reached cur used k =
     (k ≤ n) × (trials ≤ k * 4194304) × (length newlows ≡ mostRows) × (length newhighs ≡ mostRows)
     × (used ≤ grid .rows) × EmptyFrom lows highs used × EmptyFrom newlows newhighs used
-    × ((m : Modelled grid origin n moves) → Run work₀ work lows highs grid origin n moves m k cur reached trials)
+    × ((m : Modelled grid n moves) → Run work₀ work lows highs grid n moves m k cur reached trials)
 
 abbrev μ-loop : tie.MeasureT-loop
-μ-loop work₀ grid origin n budget moves cells lows₀ highs₀ newlows₀ newhighs₀ trials₀ reached₀ cur₀ used₀ k₀ work lows highs newlows newhighs trials reached cur used k =
+μ-loop work₀ grid n budget moves cells lows₀ highs₀ newlows₀ newhighs₀ trials₀ reached₀ cur₀ used₀ k₀ work lows highs newlows newhighs trials reached cur used k =
     n - k
 
 loop-holds : tie.Need-loop-holds Inv-loop μ-loop

@@ -26,7 +26,7 @@ run-loads-requires : tie.Need-run-loads-requires
 run-loads-requires c κs =
     let p = c .before .before .before .before .before .before .pre in
     let e = c .before .before .before .start .ensures in
-    let o = c .before .before .before .before .before .before .args .origin in (
+    let o = c .before .before .before .before .before .before .args .grid .origin in (
       omega (arith, p .0, ap length e ∙ length-put _ _ _),
       (
         p .1,

@@ -1,9 +1,9 @@
--- `slots::step_of` meets its contract. Assumes nothing.
+-- `grid::step_of` meets its contract. Assumes nothing.
 use native.Mathlib.Nat.{mul-le-mul}
 use native.Mathlib.Omega.{arith}
 use borrow.Author.Needs.{needs}
-use Rattle.slots.proofs.step_of.Statement.{statement}
-use Rattle.slots.proofs.step_of.Tie as tie
+use Rattle.grid.proofs.step_of.Statement.{statement}
+use Rattle.grid.proofs.step_of.Tie as tie
 
 mul-step : tie.Need-mul-step
 mul-step c = omega (arith, mul-le-mul (c .pre .1) (c .pre .3))

@@ -1,0 +1,2 @@
+-- What the geometry of a table is.
+pub mod Geometry

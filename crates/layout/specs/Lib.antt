@@ -1,2 +1,0 @@
--- What the layout of a book is.
-pub mod Layout

@@ -1,2 +1,0 @@
--- What the slots of a book are.
-pub mod Slots
