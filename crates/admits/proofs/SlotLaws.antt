@@ -11,37 +11,38 @@ use lib.Dec.{leb}
 use lib.IntN.{subℕ}
 use lib.ListN.{length, getD, drop}
 use lib.Seq.{drop-cons, drop-length}
-use Rattle.model.specs.Bounds.{mostLoads}
+use Rattle.model.specs.Bounds.{mostLoads, mostRatio}
 use Rattle.model.specs.Choice.{square}
 use Rattle.model.specs.Grid.{Slot, admits, leastAbs}
 use Rattle.model.specs.Trials.{gridTop, widthOf}
 use Rattle.model.specs.Index.{depthOf, pairAt, gridFrom}
 use Rattle.model.specs.Cells.{admitsAll}
+use Rattle.model.proofs.IndexLaws.{width-is}
 use Rattle.model.proofs.IntegerLaws.{sub-pos, sub-neg}
 use Rattle.grid.specs.declared.Grid.{Grid}
 use Rattle.grid.specs.Geometry.{SlotIs, noSlot, entryAt, SlotSound}
-use Rattle.admits.specs.Admits.{PairFits, SlotsHeld}
+use Rattle.admits.specs.Admits.{mostReach, PairFits, SlotsHeld}
 
 -- ---- the q nearest to 0
 
-module _ (raised top step spread : ℕ) where
-  pub nearest-above : top ≤ raised → (raised - top) * step ≡ leastAbs step spread (subℕ raised top)
-  nearest-above h = sym (ap (leastAbs step spread) (sub-pos raised top h))
+module _ (raised depth step spread : ℕ) where
+  pub nearest-above : depth ≤ raised → (raised - depth) * step ≡ leastAbs step spread (subℕ raised depth)
+  nearest-above h = sym (ap (leastAbs step spread) (sub-pos raised depth h))
 
-  size-is : raised < top → suc (top - suc raised) ≡ top - raised
+  size-is : raised < depth → suc (depth - suc raised) ≡ depth - raised
   size-is h = omega arith
 
-  pub nearest-below : raised < top → (top - raised) * step - spread ≡ leastAbs step spread (subℕ raised top)
-  nearest-below h = sym (ap (leastAbs step spread) (sub-neg raised top h) ∙ ap (λ n. n * step - spread) (size-is h))
+  pub nearest-below : raised < depth → (depth - raised) * step - spread ≡ leastAbs step spread (subℕ raised depth)
+  nearest-below h = sym (ap (leastAbs step spread) (sub-neg raised depth h) ∙ ap (λ n. n * step - spread) (size-is h))
 
-  pub nearest-zero : raised < top → (top - raised) * step < spread → 0 ≡ leastAbs step spread (subℕ raised top)
-  nearest-zero h k = let e : 0 ≡ (top - raised) * step - spread = omega arith in e ∙ nearest-below h
+  pub nearest-zero : raised < depth → (depth - raised) * step < spread → 0 ≡ leastAbs step spread (subℕ raised depth)
+  nearest-zero h k = let e : 0 ≡ (depth - raised) * step - spread = omega arith in e ∙ nearest-below h
 
-  pub size-above : (raised + top) * step ≤ 14745375 → (raised - top) * step ≤ 14745375
-  size-above h = let l : raised - top ≤ raised + top = omega arith in omega (arith, mul-le-mul-right step l)
+  pub size-above : (raised + depth) * step ≤ mostReach → (raised - depth) * step ≤ mostReach
+  size-above h = let l : raised - depth ≤ raised + depth = omega arith in omega (arith, mul-le-mul-right step l)
 
-  pub size-below : (raised + top) * step ≤ 14745375 → (top - raised) * step ≤ 14745375
-  size-below h = let l : top - raised ≤ raised + top = omega arith in omega (arith, mul-le-mul-right step l)
+  pub size-below : (raised + depth) * step ≤ mostReach → (depth - raised) * step ≤ mostReach
+  size-below h = let l : depth - raised ≤ raised + depth = omega arith in omega (arith, mul-le-mul-right step l)
 
 -- ---- one slot's numbers
 
@@ -51,12 +52,12 @@ module _ {a raised depth step count limit : ℕ} (f : PairFits a raised depth st
 
 -- ---- one slot
 
--- R × L, N × L, and r times these
-lengths-small : (s : Slot) {t : ℕ} → SlotSound t s → (gridTop s * s .step ≤ 65535) × ((s .ratio * gridTop s + s .ratio * s .loads) * s .step ≤ 4915125)
+-- R × L, and r × (R + N) × L
+lengths-small : (s : Slot) {t : ℕ} → SlotSound t s → (gridTop s * s .step ≤ 65535) × (depthOf s * s .step ≤ mostRatio * ((mostLoads + 1) * 65535))
 lengths-small s h =
     let top : gridTop s * s .step ≤ 65535 = omega (arith, div-add-mod' (s .limit) (s .step), h .limit-small) in
     let loads : s .loads * s .step ≤ mostLoads * 65535 = mul-le-mul (h .loads-few) (h .step-small) in
-    let both : gridTop s * s .step + s .loads * s .step ≤ 1638375 = omega arith in
+    let both : gridTop s * s .step + s .loads * s .step ≤ (mostLoads + 1) * 65535 = omega arith in
     (top, omega (arith, mul-le-mul (h .ratio-few) both, mul-assoc (s .ratio) (gridTop s) (s .step), mul-assoc (s .ratio) (s .loads) (s .step)))
 
 module _ (s : Slot) {t : ℕ} (h : SlotSound t s) (a b : ℕ) where
@@ -67,8 +68,7 @@ module _ (s : Slot) {t : ℕ} (h : SlotSound t s) (a b : ℕ) where
       let one : 0 < R + 1 = omega arith in
       let wide : 0 < widthOf s = omega arith in
       let below : a % (R + 1) ≤ R = omega (arith, mod-lt a one) in
-      let odd : 2 * s .ratio - 1 ≤ 2 * s .ratio = omega arith in
-      let across : b % widthOf s + depthOf s ≤ 3 * (s .ratio * R + s .ratio * s .loads) = omega (arith, mod-lt b wide, mul-le-mul-right (s .loads) odd) in
+      let across : b % widthOf s + depthOf s ≤ 3 * depthOf s = omega (arith, mod-lt b wide, width-is s (h .ratio-some)) in
       let small = lengths-small s h in
       record {
         active = omega (arith, mul-le-mul-right L below, small);

@@ -9,17 +9,17 @@ ghost use Rattle.model.specs.Choice.{square};
 ghost use Rattle.model.specs.Grid.{leastAbs};
 ghost use Rattle.model.specs.Cells.{admitsAll};
 ghost use Rattle.model.specs.Index.{gridFrom};
-ghost use Rattle.admits.specs.Admits.{PairFits, SlotsHeld};
+ghost use Rattle.admits.specs.Admits.{mostReach, PairFits, SlotsHeld};
 
-// The least |q| of bL ≤ q ≤ bL + e, where `raised` is b + zero, `step` is L and `spread` is e.
-fn nearest(raised: u64, zero: u64, step: u64, spread: u64) -> u64
-    requires { ⌜ (raised + zero) * step ≤ 14745375 ⌝ }
-    ensures { λ r. ⌜ (r ≡ leastAbs step spread (subℕ raised zero)) × (r ≤ 14745375) ⌝ }
+// The least |q| of bL ≤ q ≤ bL + e, where `raised` is b + depth, `step` is L and `spread` is e.
+fn nearest(raised: u64, depth: u64, step: u64, spread: u64) -> u64
+    requires { ⌜ (raised + depth) * step ≤ mostReach ⌝ }
+    ensures { λ r. ⌜ (r ≡ leastAbs step spread (subℕ raised depth)) × (r ≤ mostReach) ⌝ }
 {
-    if zero <= raised {
-        return (raised - zero) * step;
+    if depth <= raised {
+        return (raised - depth) * step;
     }
-    let size = (zero - raised) * step;
+    let size = (depth - raised) * step;
     if size < spread {
         return 0;
     }

@@ -19,7 +19,7 @@ use Rattle.model.specs.Lists.{upto}
 use Rattle.model.specs.Bounds.{mostLoads}
 use Rattle.model.specs.Frames.{field, lineLength, lineOf, afterLine}
 use Rattle.model.specs.Refusals.{Result, refused, done, first, checked, andThen}
-use Rattle.model.specs.Book.{Settings, Problem, headerRules, readBook, slotCount, loadCount, finenessIn, budgetIn, limitsIn, problem, settings, lineRule, loadRules, endRules, readLoads}
+use Rattle.model.specs.Book.{Settings, Problem, headerRules, readBook, slotCount, loadCount, finenessIn, ratioDigits, ratioIn, budgetIn, limitsIn, problem, settings, lineRule, loadRules, endRules, readLoads}
 use Rattle.model.specs.Answers.{answerOf, bytesOnly}
 use Rattle.model.specs.Values.{loadValue, bookValue, freshBook, readingOf}
 use Rattle.model.proofs.UptoLaws.{length-upto, set-upto}
@@ -29,23 +29,23 @@ use Rattle.book.specs.Lines.{loadsValue, loadsReading, restRead}
 
 -- ---- one line
 
-module _ (t m number : ℕ) (bytes : List ℕ) where
+module _ (t ratio m number : ℕ) (bytes : List ℕ) where
   abbrev rest : Result (List Settings)
-  rest = andThen (readLoads t m (suc number) (afterLine bytes)) (λ loads. done (settings t (lineOf bytes) ∷ loads))
+  rest = andThen (readLoads t ratio m (suc number) (afterLine bytes)) (λ loads. done (settings t (lineOf bytes) ∷ loads))
 
-  line-unterminated : length bytes ≤ lineLength bytes → readLoads t (suc m) number bytes ≡ refused Unterminated number
+  line-unterminated : length bytes ≤ lineLength bytes → readLoads t ratio (suc m) number bytes ≡ refused Unterminated number
   unfolding readLoads
   line-unterminated h =
-      ap (λ f. checked number f rest) (first-here Unterminated (loadRules t (lineOf bytes)) _ (ap not (le-ltb _ _ h)))
+      ap (λ f. checked number f rest) (first-here Unterminated (loadRules t ratio (lineOf bytes)) _ (ap not (le-ltb _ _ h)))
 
-  line-found : lineLength bytes < length bytes → first (lineRule bytes ∷ loadRules t (lineOf bytes)) ≡ first (loadRules t (lineOf bytes))
-  line-found h = first-next Unterminated (loadRules t (lineOf bytes)) _ (ap not (lt-ltb _ _ h))
+  line-found : lineLength bytes < length bytes → first (lineRule bytes ∷ loadRules t ratio (lineOf bytes)) ≡ first (loadRules t ratio (lineOf bytes))
+  line-found h = first-next Unterminated (loadRules t ratio (lineOf bytes)) _ (ap not (lt-ltb _ _ h))
 
-  line-refused : (r : Refusal) → lineLength bytes < length bytes → first (loadRules t (lineOf bytes)) ≡ Refused r → readLoads t (suc m) number bytes ≡ refused r number
+  line-refused : (r : Refusal) → lineLength bytes < length bytes → first (loadRules t ratio (lineOf bytes)) ≡ Refused r → readLoads t ratio (suc m) number bytes ≡ refused r number
   unfolding readLoads
   line-refused r h e = ap (λ f. checked number f rest) (line-found h ∙ e)
 
-  line-read : lineLength bytes < length bytes → first (loadRules t (lineOf bytes)) ≡ Passed → readLoads t (suc m) number bytes ≡ rest
+  line-read : lineLength bytes < length bytes → first (loadRules t ratio (lineOf bytes)) ≡ Passed → readLoads t ratio (suc m) number bytes ≡ rest
   unfolding readLoads
   line-read h e = ap (λ f. checked number f rest) (line-found h ∙ e)
 
@@ -79,33 +79,33 @@ stored-more before vs k l n h e =
         ∙ sym (List·getD-eq-default (before ++ (vs ∷ [])) [] {n = j} (omega (arith, length-append before (vs ∷ []))))
 
 -- k of `count` load lines are read, and their settings are in the array; what is left starts at a place
-pub record Read (t count : ℕ) (s : List ℕ) (at k : ℕ) (loads : List Load) : Type 0 where
+pub record Read (t ratio count : ℕ) (s : List ℕ) (at k : ℕ) (loads : List Load) : Type 0 where
   pub before : List Settings
   pub many : length before ≡ k
   pub stored : loads ≡ loadsValue before
-  pub whole : readLoads t count 2 s ≡ joined before (readLoads t (count - k) (k + 2) (drop at s))
+  pub whole : readLoads t ratio count 2 s ≡ joined before (readLoads t ratio (count - k) (k + 2) (drop at s))
 
-pub read-none : (t count : ℕ) (s : List ℕ) → Read t count s 0 0 (replicate mostLoads (loadValue []))
-read-none t count s =
-    record { before = []; many = refl; stored = refl; whole = sym (joined-none _ ∙ ap (λ n. readLoads t n 2 s) (sub-zero count)) }
+pub read-none : (t ratio count : ℕ) (s : List ℕ) → Read t ratio count s 0 0 (replicate mostLoads (loadValue []))
+read-none t ratio count s =
+    record { before = []; many = refl; stored = refl; whole = sym (joined-none _ ∙ ap (λ n. readLoads t ratio n 2 s) (sub-zero count)) }
 
-module _ (t count : ℕ) (s : List ℕ) (at k : ℕ) (loads : List Load) (h : Read t count s at k loads) where
+module _ (t ratio count : ℕ) (s : List ℕ) (at k : ℕ) (loads : List Load) (h : Read t ratio count s at k loads) where
   -- the next line
-  next : k < count → readLoads t count 2 s ≡ joined (h .before) (readLoads t (suc (count - (k + 1))) (k + 2) (drop at s))
+  next : k < count → readLoads t ratio count 2 s ≡ joined (h .before) (readLoads t ratio (suc (count - (k + 1))) (k + 2) (drop at s))
   next l =
       let e : count - k ≡ suc (count - (k + 1)) = omega arith in
-      h .whole ∙ ap (λ m. joined (h .before) (readLoads t m (k + 2) (drop at s))) e
+      h .whole ∙ ap (λ m. joined (h .before) (readLoads t ratio m (k + 2) (drop at s))) e
 
-  pub read-unterminated : k < count → length (drop at s) ≤ lineLength (drop at s) → readLoads t count 2 s ≡ refused Unterminated (k + 2)
-  read-unterminated l b = next l ∙ ap (joined (h .before)) (line-unterminated t (count - (k + 1)) (k + 2) (drop at s) b)
+  pub read-unterminated : k < count → length (drop at s) ≤ lineLength (drop at s) → readLoads t ratio count 2 s ≡ refused Unterminated (k + 2)
+  read-unterminated l b = next l ∙ ap (joined (h .before)) (line-unterminated t ratio (count - (k + 1)) (k + 2) (drop at s) b)
 
-  pub read-refused : (r : Refusal) → k < count → lineLength (drop at s) < length (drop at s) → first (loadRules t (lineOf (drop at s))) ≡ Refused r
-      → readLoads t count 2 s ≡ refused r (k + 2)
-  read-refused r l b e = next l ∙ ap (joined (h .before)) (line-refused t (count - (k + 1)) (k + 2) (drop at s) r b e)
+  pub read-refused : (r : Refusal) → k < count → lineLength (drop at s) < length (drop at s) → first (loadRules t ratio (lineOf (drop at s))) ≡ Refused r
+      → readLoads t ratio count 2 s ≡ refused r (k + 2)
+  read-refused r l b e = next l ∙ ap (joined (h .before)) (line-refused t ratio (count - (k + 1)) (k + 2) (drop at s) r b e)
 
   pub read-more : (end : ℕ) (load : Load) → k < count → count ≤ mostLoads → lineLength (drop at s) < length (drop at s)
-      → first (loadRules t (lineOf (drop at s))) ≡ Passed → load ≡ loadValue (settings t (lineOf (drop at s)))
-      → drop end s ≡ afterLine (drop at s) → Read t count s end (k + 1) (set loads k load)
+      → first (loadRules t ratio (lineOf (drop at s))) ≡ Passed → load ≡ loadValue (settings t (lineOf (drop at s)))
+      → drop end s ≡ afterLine (drop at s) → Read t ratio count s end (k + 1) (set loads k load)
   read-more end load l few b e v a =
       record {
         before = h .before ++ (settings t (lineOf (drop at s)) ∷ []);
@@ -113,19 +113,19 @@ module _ (t count : ℕ) (s : List ℕ) (at k : ℕ) (loads : List Load) (h : Re
         stored = ap (λ x. set x k load) (h .stored) ∙ stored-more (h .before) (settings t (lineOf (drop at s))) k load (h .many) (omega arith) v;
         whole =
             next l
-            ∙ ap (joined (h .before)) (line-read t (count - (k + 1)) (k + 2) (drop at s) b e)
-            ∙ joined-more (h .before) (settings t (lineOf (drop at s))) (readLoads t (count - (k + 1)) (suc (k + 2)) (afterLine (drop at s)))
-            ∙ ap₂ (λ n x. joined (h .before ++ (settings t (lineOf (drop at s)) ∷ [])) (readLoads t (count - (k + 1)) n x)) (number k) (sym a);
+            ∙ ap (joined (h .before)) (line-read t ratio (count - (k + 1)) (k + 2) (drop at s) b e)
+            ∙ joined-more (h .before) (settings t (lineOf (drop at s))) (readLoads t ratio (count - (k + 1)) (suc (k + 2)) (afterLine (drop at s)))
+            ∙ ap₂ (λ n x. joined (h .before ++ (settings t (lineOf (drop at s)) ∷ [])) (readLoads t ratio (count - (k + 1)) n x)) (number k) (sym a);
       }
     where
       number : (k : ℕ) → suc (k + 2) ≡ k + 1 + 2
       number k = omega arith
 
   -- after the last line
-  last : k ≡ count → readLoads t count 2 s ≡ joined (h .before) (readLoads t 0 (k + 2) (drop at s))
+  last : k ≡ count → readLoads t ratio count 2 s ≡ joined (h .before) (readLoads t ratio 0 (k + 2) (drop at s))
   last e =
       let z : count - k ≡ 0 = omega arith in
-      h .whole ∙ ap (λ m. joined (h .before) (readLoads t m (k + 2) (drop at s))) z
+      h .whole ∙ ap (λ m. joined (h .before) (readLoads t ratio m (k + 2) (drop at s))) z
 
   some-left : (bytes : List ℕ) (x : Result (List Settings)) → 0 < length bytes → checked (k + 2) (first (endRules bytes)) x ≡ refused TrailingBytes (k + 2)
   some-left [] x l = absurd (omega arith)
@@ -136,11 +136,11 @@ module _ (t count : ℕ) (s : List ℕ) (at k : ℕ) (loads : List Load) (h : Re
   none-left [] x l = refl
   none-left (b ∷ bytes) x l = absurd (omega arith)
 
-  pub read-trailing : k ≡ count → 0 < length (drop at s) → readLoads t count 2 s ≡ refused TrailingBytes (k + 2)
+  pub read-trailing : k ≡ count → 0 < length (drop at s) → readLoads t ratio count 2 s ≡ refused TrailingBytes (k + 2)
   unfolding readLoads
   read-trailing e l = last e ∙ ap (joined (h .before)) (some-left (drop at s) (done []) l)
 
-  pub read-all : k ≡ count → length (drop at s) ≤ 0 → readLoads t count 2 s ≡ done (h .before)
+  pub read-all : k ≡ count → length (drop at s) ≤ 0 → readLoads t ratio count 2 s ≡ done (h .before)
   unfolding readLoads
   read-all e l =
       last e ∙ ap (joined (h .before)) (none-left (drop at s) (done []) l) ∙ ap {B = Result (List Settings)} done (append-nil (h .before))
@@ -180,6 +180,7 @@ module _ (line : List ℕ) (read : Result (List Settings)) where
         slots = slotCount line;
         count = loadCount line;
         fineness = finenessIn line;
+        ratio = ratioIn line;
         budget = budgetIn line;
         limits = map (λ s. getD (limitsIn line) s 0) (upto 4);
         loads = loads;
@@ -196,9 +197,10 @@ module _ (line : List ℕ) (read : Result (List Settings)) where
       go (done loads) e h = λ i. record {
         answer = answerOf (done (bytesOnly []));
         book = record {
-          slots = sym (length-upto (λ s. field line (16 + 4 * s) 4) (slotCount line)) i;
+          slots = sym (length-upto (λ s. field line (16 + ratioDigits line + 4 * s) 4) (slotCount line)) i;
           count = sym (many loads e) i;
           fineness = finenessIn line;
+          ratio = ratioIn line;
           budget = budgetIn line;
           limits = map (λ s. getD (limitsIn line) s 0) (upto 4);
           loads = loadsValue loads;

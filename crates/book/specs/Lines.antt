@@ -6,7 +6,7 @@ use Rattle.model.specs.declared.Load.{Load}
 use Rattle.model.specs.Lists.{upto}
 use Rattle.model.specs.Refusals.{Result, refused, done, andThen}
 use Rattle.model.specs.Answers.{bytesOnly, refusalAnswer, answerOf}
-use Rattle.model.specs.Book.{Settings, Problem, slotCount, loadCount, problem, readLoads}
+use Rattle.model.specs.Book.{Settings, Problem, slotCount, loadCount, ratioIn, problem, readLoads}
 use Rattle.model.specs.Values.{loadValue}
 use Rattle.model.specs.Bounds.{mostLoads}
 use Rattle.book.specs.declared.LoadsReading.{LoadsReading}
@@ -22,4 +22,4 @@ loadsReading (done loads) = record { answer = answerOf (done (bytesOnly [])); lo
 
 -- the book of a header line and the bytes after it
 abbrev pub restRead : List ℕ → List ℕ → Result Problem
-restRead line rest = andThen (readLoads (slotCount line) (loadCount line) 2 rest) (λ loads. done (problem line loads))
+restRead line rest = andThen (readLoads (slotCount line) (ratioIn line) (loadCount line) 2 rest) (λ loads. done (problem line loads))

@@ -11,7 +11,7 @@ ghost use Rattle.model.specs.declared.Finding.the-variants.{Passed};
 ghost use Rattle.model.specs.Refusals.{first, refused};
 ghost use Rattle.model.specs.Book.{headerRules, readLoads, readBook};
 ghost use Rattle.model.specs.Values.{freshBook, readingOf};
-ghost use Rattle.model.specs.Bounds.{mostSlots, mostLoads};
+ghost use Rattle.model.specs.Bounds.{mostSlots, mostRatio, mostLoads};
 ghost use Rattle.book.specs.Lines.{loadsReading, restRead};
 
 // What reading the load lines gives; the loads are fresh ones where the answer is a refusal.
@@ -31,10 +31,10 @@ fn no_loads(r: Refusal, line: usize) -> LoadsReading
     }
 }
 
-// The load lines of a book with this many slots and loads.
-fn read_loads(s: &[u8], slots: usize, count: usize) -> LoadsReading
-    requires { ⌜ (slots ≤ mostSlots) × (count ≤ mostLoads) ⌝ }
-    ensures { λ r. ⌜ r ≡ loadsReading (readLoads slots count 2 (now (s .entry))) ⌝ }
+// The load lines of a book with this many slots and loads, and this ratio.
+fn read_loads(s: &[u8], slots: usize, ratio: u64, count: usize) -> LoadsReading
+    requires { ⌜ (slots ≤ mostSlots) × (ratio ≤ mostRatio) × (count ≤ mostLoads) ⌝ }
+    ensures { λ r. ⌜ r ≡ loadsReading (readLoads slots ratio count 2 (now (s .entry))) ⌝ }
 {
     let none = Load::fresh();
     let mut loads = [none; Book::LOADS];
@@ -48,7 +48,7 @@ fn read_loads(s: &[u8], slots: usize, count: usize) -> LoadsReading
         }
         let end = at + n;
         let line = &s[at..end];
-        let finding = loadline::load_finding(line, slots);
+        let finding = loadline::load_finding(line, slots, ratio);
         if let Finding::Refused(r) = finding {
             return no_loads(r, k + 2);
         }
@@ -81,8 +81,9 @@ fn read_rest(line: &[u8], rest: &[u8]) -> Reading
 {
     let slots = hex::number(line, 2, 2) as usize;
     let count = hex::number(line, 4, 2) as usize;
+    let ratio = header::ratio_of(line);
     let limits = header::limits_of(line, slots);
-    let read = read_loads(rest, slots, count);
+    let read = read_loads(rest, slots, ratio, count);
     let answer = read.answer;
     if answer.number != 0 {
         return no_book(answer);
@@ -92,7 +93,8 @@ fn read_rest(line: &[u8], rest: &[u8]) -> Reading
         slots,
         count,
         fineness: hex::number(line, 6, 2),
-        budget: hex::number(line, 8, 8),
+        ratio,
+        budget: header::budget_of(line),
         limits,
         loads,
     };

@@ -205,6 +205,26 @@ fn must_run_plans() {
     quick_case(b"must run, no plan", over, &mut sheet);
 }
 
+// Loads with |Q| above P, under a header of kind 08: two that cancel, each of which breaks the limit alone, and the same under kind 01; r = 4; such a header
+// without its ratio; and |Q| one above 3 × P.
+fn ratio_plans() {
+    let mut work = [77u64; 3124];
+    let mut sheet = [46u8; 60];
+    let book = b"080102040300000064000A\n020100050004000C\n020100050004FFF4\n";
+    plan_case(b"they cancel", book, &mut work, &mut sheet);
+    quick_case(b"they cancel", book, &mut sheet);
+    refused_case(
+        b"slack, kind 01",
+        b"0101020400000064000A\n020100050004000C\n020100050004FFF4\n",
+    );
+    refused_case(b"beyond, r", b"0801010104000000640064\n");
+    refused_case(b"misshapen, kind 08", b"08010101030000640064\n");
+    refused_case(
+        b"slack, r = 3",
+        b"0801010103000000640064\n020100010004FFF3\n",
+    );
+}
+
 // The sheet reader on document 01's example and a sheet.
 fn example_case(name: &[u8], sheet: &[u8]) {
     reader_case(
@@ -375,6 +395,7 @@ fn main() {
     plans();
     standing_plans();
     must_run_plans();
+    ratio_plans();
     charges();
     orders();
     views();

@@ -58,7 +58,7 @@ module _ (words room : ℕ) (b : Problem) where
     unfolding sizeRules
     fits-room = ltb-false _ _ (first-passed (sizeRules b words room) e .1 .1 .0)
 
-    -- the cells that were counted are the book's
+    -- the cells that were counted are within their bound
     pub fits-few : (total : ℕ) → Capped (cells b) total → total ≤ mostCells
     fits-few total h = go (split mostCells total)
       where

@@ -71,7 +71,6 @@ module _ (v : Book) (held : Held v) (grid : Grid) (is : GridIs (slotsOf (problem
         laid = laid v held grid is;
         loads-are = λ t l. ap (λ (s : Slot). s .loads) (slot-at v held t (omega (arith, slots-length v held)));
         limits-are = λ t l. sym (ap (λ (s : Slot). s .limit) (slot-at v held t (omega (arith, slots-length v held))));
-        count-fits = held-few v held;
       }
 
   cells-are : grid .cells ≡ cells (problemOf v)
@@ -103,13 +102,13 @@ module _ (v : Book) (held : Held v) (grid : Grid) (is : GridIs (slotsOf (problem
       let b = problemOf v in
       let valid = held-valid v held in
       record {
-        r = 1;
+        r = b .ratio;
         slots = slotsOf b;
         loads = b .loads;
         ready =
             record {
-              for = subst (λ n. SlotsFor 1 n (slotsOf b)) (sym (held-count v held)) (slots-for b);
-              some-ratio = omega arith;
+              for = subst (λ n. SlotsFor (b .ratio) n (slotsOf b)) (sym (held-count v held)) (slots-for b);
+              some-ratio = valid .ratio-some;
               few = omega (arith, held-count v held);
               keeps = valid .loads .keeps;
             };

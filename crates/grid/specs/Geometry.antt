@@ -20,6 +20,7 @@ pub record SlotIs (s : Slot) (x : SlotGrid) : Type 0 where
   pub width-is : x .width ≡ widthOf s
   pub depth-is : x .depth ≡ depthOf s
 
+-- what is read past the last slot
 abbrev pub noSlot : Slot
 noSlot = record { place = 0; limit = 0; step = 1; loads = 0; ratio = 1 }
 
@@ -46,9 +47,9 @@ pub record Capped (count r : ℕ) : Type 0 where
   pub over : mostCells < r → mostCells < count
 
 -- the geometry of a book's table; where the cells are over their bound, only that is said
-pub record GridOf (b : Problem) (v : Grid) : Type 0 where
-  pub capped : Capped (cells b) (v .cells)
+pub record BookGrid (b : Problem) (v : Grid) : Type 0 where
   pub is : v .cells ≤ mostCells → GridIs (slotsOf b) v
+  pub over : mostCells < v .cells → mostCells < cells b
 
 -- ---- the slots of which a grid speaks
 

@@ -5,7 +5,7 @@ ghost use Prim.Native.Nat.{ℕ, _≤_};
 ghost use Rattle.model.specs.Bounds.{mostLoads, mostFineness, mostRatio};
 ghost use Rattle.model.specs.Grid.{stepFor, slotAt};
 ghost use Rattle.model.specs.Values.{Held, problemOf};
-ghost use Rattle.grid.specs.Geometry.{SlotIs, GridOf};
+ghost use Rattle.grid.specs.Geometry.{SlotIs, BookGrid};
 
 // The table's geometry. For each slot: the step L, the number R + 1 of active grid values, the number of reactive ones, and how far below 0
 // these begin. Then the rows, the columns of a row, the cells, and the column of no power.
@@ -46,8 +46,7 @@ fn step_of(limit: u64, loads: u64, fineness: u64) -> u64
     step
 }
 
-// A slot with this limit, of a book with so many loads and this ratio r: (R + 1) × (2rR + (2r - 1) × N + 1) grid pairs, of which b begins r × (R + N)
-// below 0.
+// A slot with this limit, in a book of N loads and ratio r: R + 1 values of a, and 2rR + (2r - 1) × N + 1 of b, the first of them r × (R + N) below 0.
 fn slot_of(limit: u64, loads: usize, fineness: u64, ratio: usize) -> SlotGrid
     requires { ⌜ (1 ≤ loads) × (loads ≤ mostLoads) × (1 ≤ fineness) × (fineness ≤ mostFineness) ⌝ }
     requires { ⌜ (limit ≤ 65535) × (1 ≤ ratio) × (ratio ≤ mostRatio) ⌝ }
@@ -69,10 +68,11 @@ fn slot_of(limit: u64, loads: usize, fineness: u64, ratio: usize) -> SlotGrid
 // The geometry of a book's table. Once the cells are over their bound nothing more is multiplied.
 pub fn grid_of(book: Book) -> Grid
     requires { ⌜ Held book ⌝ }
-    ensures { λ v. ⌜ GridOf (problemOf book) v ⌝ }
+    ensures { λ v. ⌜ BookGrid (problemOf book) v ⌝ }
 {
     let slots = book.slots;
     let limits = book.limits;
+    let ratio = book.ratio as usize;
     let mut steps = [0u64; Book::SLOTS];
     let mut tops = [0usize; Book::SLOTS];
     let mut widths = [0usize; Book::SLOTS];
@@ -84,7 +84,7 @@ pub fn grid_of(book: Book) -> Grid
     let mut t = slots;
     while 0 < t && cells <= Book::CELLS {
         t -= 1;
-        let slot = slot_of(limits[t], book.count, book.fineness, 1);
+        let slot = slot_of(limits[t], book.count, book.fineness, ratio);
         let top = slot.top;
         let wide = slot.width;
         let depth = slot.depth;

@@ -1,21 +1,20 @@
--- Header lines: a rule over two ranges, and what a line that is not refused tells.
+-- Header lines: a rule over several ranges, where the ratio stands, and what a line that is not refused tells.
 -- Assumes nothing.
 use mathlib.Core.Path.{_≡_, refl, sym}
-use mathlib.Core.Bool.{Bool, true, false, not, _&&_, false≢true}
+use mathlib.Core.Bool.{Bool, true, false, cond, not, _&&_, false≢true}
 use mathlib.Core.List.{List}
-use Prim.Native.Nat.{ℕ, _≤_}
+use Prim.Native.Nat.{ℕ, _<_, _≤_}
+use native.Mathlib.Omega.{arith}
 use borrow.Author.Tests.{eqb-true, not-false}
 use Rattle.model.specs.declared.Finding.the-variants.{Passed}
-use Rattle.model.specs.Lists.{within}
+use Rattle.model.specs.Frames.{field}
 use Rattle.model.specs.Refusals.{first}
-use Rattle.model.specs.Book.{slotCount, loadCount, finenessIn, headerRules}
-use Rattle.model.specs.Bounds.{mostLoads, mostFineness}
-use Rattle.model.proofs.ListLaws.{both-true, within-is}
+use Rattle.model.specs.Book.{slotCount, statesRatio, ratioDigits, ratioIn, headerRules}
 use Rattle.model.proofs.RefusalLaws.{first-passed}
-use Rattle.hex.proofs.RangeLaws.{in-range}
+use Rattle.model.proofs.ValidLaws.{HeaderRanges, header-ranges}
 use Rattle.header.specs.Header.{HeaderLine}
 
--- two ranges of one rule
+-- a rule over one range and another
 pub first-out : (t u : Bool) → not t ≡ true → not (t && u) ≡ true
 first-out true u e = absurd (false≢true e)
 first-out false u e = refl
@@ -28,20 +27,42 @@ pub none-out : (t u : Bool) → not t ≡ false → not u ≡ false → not (t &
 none-out true u e f = f
 none-out false u e f = e
 
+-- ---- the ratio, by how many digits it has
+
+pub ratio-few : (line : List ℕ) → ratioDigits line ≤ 2
+unfolding ratioDigits
+ratio-few line = go (statesRatio line)
+  where
+    go : (b : Bool) → cond b 2 0 ≤ 2
+    go true = omega arith
+    go false = omega arith
+
+pub ratio-unstated : (line : List ℕ) → ratioDigits line < 1 → ratioIn line ≡ 1
+unfolding ratioDigits ratioIn
+ratio-unstated line = go (statesRatio line)
+  where
+    go : (b : Bool) → cond b 2 0 < 1 → cond b (field line 8 2) 1 ≡ 1
+    go true h = absurd (omega arith)
+    go false h = refl
+
+pub ratio-stated : (line : List ℕ) → 1 ≤ ratioDigits line → ratioIn line ≡ field line 8 (ratioDigits line)
+unfolding ratioDigits ratioIn
+ratio-stated line = go (statesRatio line)
+  where
+    go : (b : Bool) → 1 ≤ cond b 2 0 → cond b (field line 8 2) 1 ≡ field line 8 (cond b 2 0)
+    go true h = refl
+    go false h = absurd (omega arith)
+
 -- ---- lines that are not refused
+
+pub passed-ranges : (line : List ℕ) → first (headerRules line) ≡ Passed → HeaderRanges line
+passed-ranges line e = header-ranges line (first-passed (headerRules line) e)
 
 pub header-line : (line : List ℕ) → first (headerRules line) ≡ Passed → HeaderLine (slotCount line) line
 unfolding headerRules
 header-line line e =
-    let n = first-passed (headerRules line) e in
     record {
-      few = in-range 1 4 (slotCount line) (n .1 .1 .0) .1;
+      few = passed-ranges line e .slots .1;
       stated = refl;
-      long = eqb-true _ _ (not-false _ (n .1 .1 .1 .0));
+      long = eqb-true _ _ (not-false _ (first-passed (headerRules line) e .1 .1 .1 .0));
     }
-
-pub header-loads : (line : List ℕ) → first (headerRules line) ≡ Passed → loadCount line ≤ mostLoads
-unfolding headerRules
-header-loads line e =
-    within-is 1 mostLoads (loadCount line)
-    (both-true (within 1 mostLoads (loadCount line)) (within 1 mostFineness (finenessIn line)) (not-false _ (first-passed (headerRules line) e .1 .1 .1 .1 .0)) .0) .1

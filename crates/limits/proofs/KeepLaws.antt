@@ -25,7 +25,7 @@ use Rattle.sums.proofs.SumsLaws.{sums-active, sums-reactive}
 
 -- the limits from slot s on are kept
 abbrev pub keepsFrom : Problem → ℕ → Choice → Bool
-keepsFrom b s c = keepsLimits (slotsFrom (length (b .loads)) (b .fineness) 1 s (drop s (b .limits))) c
+keepsFrom b s c = keepsLimits (slotsFrom (length (b .loads)) (b .fineness) (b .ratio) s (drop s (b .limits))) c
 
 abbrev pub slotKept : Problem → ℕ → Choice → Bool
 slotKept b s c = leb (apparentSquared (sumIn s c)) (square (getD (b .limits) s 0))

@@ -1,4 +1,4 @@
--- Load lines: where things stand on them, their settings by number, |Q| > P in some of them, and Q plus 32,768.
+-- Load lines: where things stand on them, their settings by number, |Q| > r × P in some of them, and Q plus 32,768.
 -- Assumes nothing.
 use mathlib.Core.Path.{_≡_, refl, sym, ap, ap₂, _∙_}
 use mathlib.Core.Bool.{Bool, true, false, cond, _||_}
@@ -30,10 +30,10 @@ use Rattle.hex.proofs.RangeLaws.{in-range}
 use Rattle.loadline.specs.LoadLine.{LoadLine}
 
 -- a line that is not refused
-pub load-line : (t : ℕ) (line : List ℕ) → t ≤ 4 → first (loadRules t line) ≡ Passed → LoadLine t (standingPairs t line) (optionCount line) line
+pub load-line : (t r : ℕ) (line : List ℕ) → t ≤ 4 → first (loadRules t r line) ≡ Passed → LoadLine t (standingPairs t line) (optionCount line) line
 unfolding loadRules
-load-line t line h e =
-    let n = first-passed (loadRules t line) e in
+load-line t r line h e =
+    let n = first-passed (loadRules t r line) e in
     record {
       slots = h;
       carried = refl;
@@ -167,45 +167,48 @@ module _ (t c s : ℕ) (line : List ℕ) where
     pub power-option : s < t → powerIn s (settingOf (settings t line) c) ≡ placed s
     power-option h = ap (powerIn s) (setting-option t c line p q) ∙ getD-upto placed t s noPower h
 
--- ---- |Q| > P, by the numbers of settings and slots
+-- ---- |Q| > r × P, by the numbers of settings and slots
 
 -- in some of t slots
-abbrev pub exceedsIn : ℕ → Setting → Bool
-exceedsIn t v = any reactiveExceeds (map (λ s. powerIn s v) (upto t))
-
-exceeds-in : (t : ℕ) (v : Setting) → length (v .powers) ≡ t → any reactiveExceeds (v .powers) ≡ exceedsIn t v
-exceeds-in t v e =
-    ap (any reactiveExceeds) (sym (upto-is (λ s. powerIn s v) (v .powers) noPower (λ k l. refl)))
-    ∙ ap (λ n. any reactiveExceeds (map (λ s. powerIn s v) (upto n))) e
-
-exceeds-each : (t : ℕ) (vs : Settings) → Every (λ v. length (v .powers) ≡ t) vs → any (λ v. any reactiveExceeds (v .powers)) vs ≡ any (exceedsIn t) vs
-exceeds-each t [] h = refl
-exceeds-each t (v ∷ vs) h = ap₂ _||_ (exceeds-in t v (h .0)) (exceeds-each t vs (h .1))
-
--- what draws nothing exceeds nowhere
-exceeds-none : (i n : ℕ) → any reactiveExceeds (map (λ s. powerIn s noSetting) (uptoFrom i n)) ≡ false
-exceeds-none i zero = refl
-exceeds-none i (suc n) = exceeds-none (suc i) n
+abbrev pub exceedsIn : ℕ → ℕ → Setting → Bool
+exceedsIn r t v = any (reactiveExceeds r) (map (λ s. powerIn s v) (upto t))
 
 -- settings numbered from i on, by their numbers
 by-numbers : (i : ℕ) (vs : Settings) → Numbered i vs → vs ≡ map (settingOf vs) (uptoFrom i (length vs))
 by-numbers i vs h = sym (from-is (settingOf vs) i vs noSetting (numbered-of i vs h))
 
--- by the numbers from 0 on, also where no setting has number 0
-pub exceeds-is : (t : ℕ) (line : List ℕ) → someExceeds (settings t line) ≡ any (exceedsIn t) (map (settingOf (settings t line)) (upto (optionCount line + 1)))
-unfolding someExceeds settingOf
-exceeds-is t line =
-    exceeds-each t (settings t line) (sized-settings t line)
-    ∙ settings-by (λ b vs. any (exceedsIn t) vs ≡ any (exceedsIn t) (map (settingOf vs) (upto (optionCount line + 1)))) t line
-    (λ e. ap (any (exceedsIn t)) (by-numbers 1 (options t line) (options-numbered t line))
-    ∙ ap (λ x. x || any (exceedsIn t) (map (settingOf (options t line)) (uptoFrom 1 (length (options t line)))))
-    (sym (ap (λ v. exceedsIn t (settingOr v)) (no-option t line) ∙ exceeds-none 0 t))
-    ∙ numbers (options t line))
-    (λ e. ap (any (exceedsIn t)) (by-numbers 0 (standing t line ∷ options t line) (refl, options-numbered t line)) ∙ numbers (standing t line ∷ options t line))
-  where
-    numbers : (vs : Settings)
-        → any (exceedsIn t) (map (settingOf vs) (upto (suc (length (options t line))))) ≡ any (exceedsIn t) (map (settingOf vs) (upto (optionCount line + 1)))
-    numbers vs = let e : suc (length (options t line)) ≡ optionCount line + 1 = omega (arith, options-length t line) in ap (λ k. any (exceedsIn t) (map (settingOf vs) (upto k))) e
+module _ (r t : ℕ) where
+  exceeds-in : (v : Setting) → length (v .powers) ≡ t → any (reactiveExceeds r) (v .powers) ≡ exceedsIn r t v
+  exceeds-in v e =
+      ap (any (reactiveExceeds r)) (sym (upto-is (λ s. powerIn s v) (v .powers) noPower (λ k l. refl)))
+      ∙ ap (λ n. any (reactiveExceeds r) (map (λ s. powerIn s v) (upto n))) e
+
+  exceeds-each : (vs : Settings) → Every (λ v. length (v .powers) ≡ t) vs → any (λ v. any (reactiveExceeds r) (v .powers)) vs ≡ any (exceedsIn r t) vs
+  exceeds-each [] h = refl
+  exceeds-each (v ∷ vs) h = ap₂ _||_ (exceeds-in v (h .0)) (exceeds-each vs (h .1))
+
+  -- what draws nothing exceeds nowhere
+  exceeds-none : (i n : ℕ) → any (reactiveExceeds r) (map (λ s. powerIn s noSetting) (uptoFrom i n)) ≡ false
+  exceeds-none i zero = refl
+  exceeds-none i (suc n) = ap₂ _||_ (le-ltb (r * 0) 0 (omega arith)) (exceeds-none (suc i) n)
+
+  -- by the numbers from 0 on, also where no setting has number 0
+  pub exceeds-is : (line : List ℕ) → someExceeds r (settings t line) ≡ any (exceedsIn r t) (map (settingOf (settings t line)) (upto (optionCount line + 1)))
+  unfolding someExceeds settingOf
+  exceeds-is line =
+      exceeds-each (settings t line) (sized-settings t line)
+      ∙ settings-by (λ b vs. any (exceedsIn r t) vs ≡ any (exceedsIn r t) (map (settingOf vs) (upto (optionCount line + 1)))) t line
+      (λ e. ap (any (exceedsIn r t)) (by-numbers 1 (options t line) (options-numbered t line))
+      ∙ ap (λ x. x || any (exceedsIn r t) (map (settingOf (options t line)) (uptoFrom 1 (length (options t line)))))
+      (sym (ap (λ v. exceedsIn r t (settingOr v)) (no-option t line) ∙ exceeds-none 0 t))
+      ∙ numbers (options t line))
+      (λ e. ap (any (exceedsIn r t)) (by-numbers 0 (standing t line ∷ options t line) (refl, options-numbered t line)) ∙ numbers (standing t line ∷ options t line))
+    where
+      numbers : (vs : Settings)
+          → any (exceedsIn r t) (map (settingOf vs) (upto (suc (length (options t line))))) ≡ any (exceedsIn r t) (map (settingOf vs) (upto (optionCount line + 1)))
+      numbers vs =
+          let e : suc (length (options t line)) ≡ optionCount line + 1 = omega (arith, options-length t line) in
+          ap (λ k. any (exceedsIn r t) (map (settingOf vs) (upto k))) e
 
 -- ---- Q plus 32,768
 

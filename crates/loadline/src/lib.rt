@@ -13,7 +13,7 @@ ghost use Rattle.model.specs.Book.{noPower, standingPairs, optionStart, powerAt
 ghost use Rattle.model.specs.Choice.{settingOf, powerIn};
 ghost use Rattle.model.specs.MustRun.{leastNumber};
 ghost use Rattle.model.specs.Values.{loadValue};
-ghost use Rattle.model.specs.Bounds.{mostSlots, mostOptions, mostSettings};
+ghost use Rattle.model.specs.Bounds.{mostSlots, mostRatio, mostOptions, mostSettings};
 ghost use Rattle.loadline.specs.LoadLine.{LoadLine, powerValue};
 
 // An active power, and a reactive power plus 32,768.
@@ -104,25 +104,35 @@ fn power_of(line: &[u8], slots: usize, pairs: usize, count: usize, c: usize, s: 
     power_at(line, at + 4 + 8 * s)
 }
 
-// |Q| > P in setting c and slot s.
-fn exceeds_at(line: &[u8], slots: usize, pairs: usize, count: usize, c: usize, s: usize) -> bool
+// |Q| > r × P in setting c and slot s.
+fn exceeds_at(
+    line: &[u8],
+    slots: usize,
+    ratio: u64,
+    pairs: usize,
+    count: usize,
+    c: usize,
+    s: usize,
+) -> bool
     requires { ⌜ LoadLine slots pairs count (now line) ⌝ }
-    ensures { λ r. ⌜ r ≡ reactiveExceeds (powerIn s (settingOf (settings slots (now (line .entry))) c)) ⌝ }
+    requires { ⌜ ratio ≤ mostRatio ⌝ }
+    ensures { λ r. ⌜ r ≡ reactiveExceeds ratio (powerIn s (settingOf (settings slots (now (line .entry))) c)) ⌝ }
 {
     let power = power_of(line, slots, pairs, count, c, s);
-    power.active < model::distance(power.reactive, 32768)
+    ratio * power.active < model::distance(power.reactive, 32768)
 }
 
-// |Q| > P in some setting and slot; where the load must run, setting 0 has no power and exceeds nowhere.
-fn some_exceeds(line: &[u8], slots: usize, pairs: usize, count: usize) -> bool
+// |Q| > r × P in some setting and slot; where the load must run, setting 0 has no power and exceeds nowhere.
+fn some_exceeds(line: &[u8], slots: usize, ratio: u64, pairs: usize, count: usize) -> bool
     requires { ⌜ LoadLine slots pairs count (now line) ⌝ }
-    ensures { λ r. ⌜ r ≡ someExceeds (settings slots (now (line .entry))) ⌝ }
+    requires { ⌜ ratio ≤ mostRatio ⌝ }
+    ensures { λ r. ⌜ r ≡ someExceeds ratio (settings slots (now (line .entry))) ⌝ }
 {
     let mut found = false;
     let settings = count + 1;
     'settings: for c in 0..settings {
         for s in 0..slots {
-            if exceeds_at(line, slots, pairs, count, c, s) {
+            if exceeds_at(line, slots, ratio, pairs, count, c, s) {
                 found = true;
                 break 'settings;
             }
@@ -132,9 +142,9 @@ fn some_exceeds(line: &[u8], slots: usize, pairs: usize, count: usize) -> bool
 }
 
 // Refusals 2 to 5 and 7, in this order, of a load line.
-pub fn load_finding(line: &[u8], slots: usize) -> Finding
-    requires { ⌜ slots ≤ mostSlots ⌝ }
-    ensures { λ r. ⌜ r ≡ first (loadRules slots (now (line .entry))) ⌝ }
+pub fn load_finding(line: &[u8], slots: usize, ratio: u64) -> Finding
+    requires { ⌜ (slots ≤ mostSlots) × (ratio ≤ mostRatio) ⌝ }
+    ensures { λ r. ⌜ r ≡ first (loadRules slots ratio (now (line .entry))) ⌝ }
 {
     if !hex::all_digits(line) {
         return Finding::Refused(Refusal::NotHex);
@@ -151,7 +161,7 @@ pub fn load_finding(line: &[u8], slots: usize) -> Finding
     if line.len() != due {
         return Finding::Refused(Refusal::WrongLength);
     }
-    if some_exceeds(line, slots, pairs, count as usize) {
+    if some_exceeds(line, slots, ratio, pairs, count as usize) {
         return Finding::Refused(Refusal::ReactiveExceedsActive);
     }
     Finding::Passed

@@ -1,6 +1,6 @@
 -- The proved table: document 01's starred cases ("Trials at the bench"), the ends of M-102's range, two overloads near M-106's bound, charges (M-100),
--- orders of starting (M-101), views (M-103), standing loads that draw (M-104), loads that must run (M-105), a day's books (M-107), and edges where a near
--- mistake shows, as one table of facts about the definitions, with one statement covering it. Star n is the n-th star of document 01.
+-- orders of starting (M-101), views (M-103), standing loads that draw (M-104), loads that must run (M-105), a day's books (M-107), poorer power factors
+-- (M-108), and edges where a near mistake shows, as one table of facts about the definitions, with one statement covering it. Star n is the n-th star of document 01.
 -- Assumes nothing.
 use mathlib.Core.Path.{_≡_, refl, ap₂, _∙_}
 use mathlib.Core.Bool.{Bool, true, false, _&&_}
@@ -20,7 +20,7 @@ use Rattle.model.specs.Lists.{upto, all, any, concat, sameLists}
 use Rattle.model.specs.Frames.{isDigit, digitValue, digit, valueFrom, field, digits, signed, unsigned, lineLength}
 use Rattle.model.specs.Refusals.{Result, refused, done, numberOf, first}
 use Rattle.model.specs.Answers.{Output, answerOf}
-use Rattle.model.specs.Book.{Problem, standingPairs, mustRun, optionStart, standingPower, headerRules, someExceeds, loadRules, readLoads, readBook}
+use Rattle.model.specs.Book.{Problem, statesRatio, ratioDigits, ratioIn, standingPairs, mustRun, optionStart, standingPower, headerRules, someExceeds, loadRules, readLoads, readBook}
 use Rattle.model.specs.Choice.{Choice, settingOf, square}
 use Rattle.model.specs.Grid.{stepFor, slotsOf, floorDiv, bestAdmitted, plan}
 use Rattle.model.specs.Trials.{cells, sameℤ, reachedCount, trialsUpto, trials}
@@ -53,6 +53,8 @@ pub data Row : Type 0 where
   steps : ℕ → ℕ → ℕ → ℕ → Row
   -- a power and a step L have a grid value, by document 01's sentence and by M-102's arithmetic
   rounds : ℤ → ℕ → ℤ → Row
+  -- a book has so many cells
+  counts : String → ℕ → Row
   -- the trials of a book, load by load: what each load adds to those before it
   tries : String → List ℕ → Row
   -- in each slot of a book's plan, P² + Q² is x, (1 + m/d)²S² is y, and x ≤ y, for m, x and y in this order
@@ -140,6 +142,7 @@ holds (quickPrints book out) = sameLists eqb (printed (quickResult (bytesOf book
 holds (reads book) = readWith (λ b. true) book
 holds (steps n d s l) = eqb (stepFor n d s) l
 holds (rounds x l g) = sameℤ (floorDiv x l) g && sameℤ (floorBySum x l) g
+holds (counts book n) = readWith (λ b. eqb (cells b) n) book
 holds (tries book each) = readWith (λ b. sameLists eqb (map (triesOf b) (upto (length (b .loads)))) each) book
 holds (carries book m x y) = readWith (inSlots (λ d s z. eqb z x && eqb (square (d + m) * square s) (square d * y) && leb x y)) book
 holds (overloads book out) = printsFor book out && readWith (inSlots nearBound) book
@@ -186,6 +189,13 @@ twinSheet = bytesOf "04000000010000000001\n050000000900000001000A\n"
 -- and the sheet on which it stands
 abbrev standingSheet : List ℕ
 standingSheet = bytesOf "04000000000000000000\n050000000000000000000A\n"
+
+-- the handbook's book of M-108
+abbrev bankBook : String
+bankBook = "080103050300000064000A\n0201000900040008\n020100000003FFF7\n0201000400030001\n"
+
+abbrev bankSheet : List ℕ
+bankSheet = bytesOf "040000000D0000000E010101\n050000000A00000000000A\n"
 
 -- of books and their plans. What is soon computed, edges and M-106 stand first: the checker shows what a list computes to only up to a number of steps,
 -- and a near mistake is to show as false.
@@ -430,6 +440,53 @@ dayRows =
     ∷ frees (times 32 lf ++ twinBook) 6144 0
     ∷ []
 
+-- of books that state a ratio (M-108)
+unfoldable pub ratioRows : List Row
+ratioRows =
+    -- two faults on one line: r = 0 and a digit too few, and 5 comes before 6
+    prints "080101010000000064006\n" "FF050001\n"
+    -- of a standing pair |Q| = 2P is read where r = 2, and |Q| = 2P + 1 is refused
+    ∷ reads "0801010102000000640064\n060100040008000500040000\n"
+    ∷ prints "0801010102000000640064\n060100040009000500040000\n" "FF070002\n"
+    -- the cells of one slot with N = 2, d = 2 and S = 10, so R = 5: 6 × 13, 6 × 27 and 6 × 41; under `01` as with r = 1
+    ∷ counts "0101020200000064000A\n0201000100040004\n0201000100040004\n" 78
+    ∷ counts "080102020100000064000A\n0201000100040004\n0201000100040004\n" 78
+    ∷ counts "080102020200000064000A\n0201000100040004\n0201000100040004\n" 162
+    ∷ counts "080102020300000064000A\n0201000100040004\n0201000100040004\n" 246
+    -- r = 3, N = 1: R = 15 has 1,536 cells, for which the program's words are enough, and R = 16 more
+    ∷ prints "0801010F0300000064000F\n020100010004000C\n" "04000000010000000201\n05000000040000000C000F\n"
+    ∷ prints "0801011003000000640010\n020100010004000C\n" "FF0A0000\n"
+    -- N = 4 and R = 511: over the bound on cells where r = 2, and not where r = 1
+    ∷ prints "08010440020000006401FF\n0201000100040004\n0201000100040004\n0201000100040004\n0201000100040004\n" "FF090000\n"
+    ∷ prints "08010440010000006401FF\n0201000100040004\n0201000100040004\n0201000100040004\n0201000100040004\n" "FF0A0000\n"
+    -- two loads that cancel, each of which breaks the limit alone: planned where r = 3, and refused under `01`; the quick planner leaves both standing, and with
+    -- S = 13 starting the second shrinks P² + Q²
+    ∷ prints "080102040300000064000A\n020100050004000C\n020100050004FFF4\n" "040000000A000000060101\n050000000800000000000A\n"
+    ∷ prints "0101020400000064000A\n020100050004000C\n020100050004FFF4\n" "FF070002\n"
+    ∷ quickPrints "080102040300000064000A\n020100050004000C\n020100050004FFF4\n" "0400000000000000020000\n050000000000000000000A\n"
+    ∷ quickPrints "080102040300000064000D\n020100050004000C\n020100050004FFF4\n" "040000000A000000020101\n050000000800000000000D\n"
+    -- the header's length by its kind: `08` with 16 + 4T digits, and `01` with 18 + 4T
+    ∷ prints "08010101030000640064\n0201000100040004\n" "FF050001\n"
+    ∷ prints "0101010103000000640064\n0201000100040004\n" "FF050001\n"
+    -- r = 0 and r = 4
+    ∷ prints "0801010100000000640064\n0201000100040004\n" "FF060001\n"
+    ∷ prints "0801010104000000640064\n0201000100040004\n" "FF060001\n"
+    -- such a header is no load line
+    ∷ prints "0801010103000000640064\n0801000100040004\n" "FF030002\n"
+    -- of an option |Q| = 3P is read where r = 3, |Q| = 3P + 1 is refused, and under `01` both are; of two slots each has its limit
+    ∷ quickPrints "08020101030000006400640020\n020100010004FFF40005000F\n" "04000000010000000101\n0500000004FFFFFFF40064\n05000000050000000F0020\n"
+    ∷ prints "08020101030000006400640020\n020100010004FFF400050010\n" "FF070002\n"
+    ∷ prints "010201010000006400640020\n020100010004FFF40005000F\n" "FF070002\n"
+    ∷ prints "010201010000006400640020\n020100010004FFF400050010\n" "FF070002\n"
+    -- the handbook's mill with an old motor and a capacitor bank, and the quick planner's sheet for it
+    ∷ prints bankBook "040000000D0000000E010101\n050000000A00000000000A\n"
+    ∷ quickPrints bankBook "040000000400000003000101\n0500000006FFFFFFF8000A\n"
+    -- r = 1, document 01's book: its sheet; and with budget 13, which stands after r
+    ∷ prints "080103040100000064000A\n0201000500050005\n020100050004FFFC\n0201000400040000\n"
+    "040000000A0000000E010100\n050000000900000001000A\n"
+    ∷ prints "08010304010000000D000A\n0201000500050005\n020100050004FFFC\n0201000400040000\n" "FF0C0000\n"
+    ∷ []
+
 -- of sheets: charges, orders of starting and views, the longest book last
 unfoldable pub sheetRows : List Row
 sheetRows =
@@ -446,6 +503,10 @@ sheetRows =
     -- M-100, two faults: 13 comes before 14, and the book's 7 before both
     ∷ charges halvesBook [] [] (13 ∷ 0 ∷ 0 ∷ [])
     ∷ charges (bytesOf "01010101000000640064\n020100010004FFFB\n") [] [] (7 ∷ 2 ∷ 0 ∷ [])
+    -- M-108: a sheet read, charged and shown under a header that states a ratio
+    ∷ answers (bytesOf bankBook) bankSheet (0 ∷ 0 ∷ 21 ∷ 13 ∷ 14 ∷ [])
+    ∷ charges (bytesOf bankBook) bankSheet (8 ∷ []) (0 ∷ 0 ∷ 2 ∷ [])
+    ∷ shows supplyResult (bytesOf bankBook) bankSheet 23 (0 ∷ 0 ∷ 23 ∷ 0 ∷ 0 ∷ []) "050000000A00000000000A\n"
     -- M-101, where load 1 names 3: all start, the lowest of those ready first; highest first would be 3, 2, 1
     ∷ orders [] (1 ∷ 2 ∷ 3 ∷ []) (3 ∷ 0 ∷ 0 ∷ []) 3 (0 ∷ 3 ∷ 0 ∷ 2 ∷ 3 ∷ 1 ∷ [])
     -- M-101: load 3 runs already, so load 2, which names it, is ready at once
@@ -493,7 +554,7 @@ sheetRows =
 
 plan-rows-hold : all holds planRows ≡ true
 unfolding holds planRows programOutput refusalLine plannerResult planSheet fittingBook sizeRules
-    readBook readLoads headerRules loadRules someExceeds standingPairs mustRun optionStart standingPower first
+    readBook readLoads headerRules statesRatio ratioDigits ratioIn loadRules someExceeds standingPairs mustRun optionStart standingPower first
     isDigit digitValue digit valueFrom field digits signed unsigned lineLength
     slotsOf plan bestAdmitted cells trials reachedCount sheetBytes firstLine slotLines sumsAndLimits slotLine numbersOf
     quickResult quickSheet quickRules quickChoice takeIfFits sizeOf settingOf
@@ -501,7 +562,7 @@ plan-rows-hold = refl
 
 standing-rows-hold : all holds standingRows ≡ true
 unfolding holds standingRows programOutput refusalLine plannerResult planSheet fittingBook sizeRules
-    readBook readLoads headerRules loadRules someExceeds standingPairs mustRun optionStart standingPower first
+    readBook readLoads headerRules statesRatio ratioDigits ratioIn loadRules someExceeds standingPairs mustRun optionStart standingPower first
     isDigit digitValue digit valueFrom field digits signed unsigned lineLength
     slotsOf plan bestAdmitted cells trials reachedCount sheetBytes firstLine slotLines sumsAndLimits slotLine numbersOf
     quickResult quickSheet quickRules quickChoice takeIfFits sizeOf settingOf
@@ -511,7 +572,7 @@ standing-rows-hold = refl
 
 must-run-rows-hold : all holds mustRunRows ≡ true
 unfolding holds mustRunRows programOutput refusalLine plannerResult planSheet fittingBook sizeRules
-    readBook readLoads headerRules loadRules someExceeds standingPairs mustRun optionStart standingPower first
+    readBook readLoads headerRules statesRatio ratioDigits ratioIn loadRules someExceeds standingPairs mustRun optionStart standingPower first
     isDigit digitValue digit valueFrom field digits signed unsigned lineLength
     slotsOf plan bestAdmitted cells trials reachedCount sheetBytes firstLine slotLines sumsAndLimits slotLine numbersOf
     quickResult quickSheet quickRules quickChoice takeIfFits sizeOf settingOf
@@ -521,9 +582,9 @@ must-run-rows-hold = refl
 
 sheet-rows-hold : all holds sheetRows ≡ true
 unfolding holds sheetRows refusalLine
-    readBook readLoads headerRules loadRules someExceeds standingPairs mustRun optionStart standingPower first
+    readBook readLoads headerRules statesRatio ratioDigits ratioIn loadRules someExceeds standingPairs mustRun optionStart standingPower first
     isDigit digitValue digit valueFrom field digits signed unsigned lineLength
-    sheetBytes firstLine slotLines sumsAndLimits slotLine numbersOf sheetChoice
+    sheetBytes firstLine slotLines sumsAndLimits slotLine numbersOf sheetChoice readerResult sheetData
     chargeResult sheetCharge choiceCharge chargeOf rounded
     accepted shown runningLoads numberAndLevel millLine millResult supplyView supplyResult
     orderResult sheetsOrder loadsOrder starting runningMask andNot startCount wrongNames someBlocked left ready startNext startedAfter startOrder ones onesIn
@@ -531,17 +592,27 @@ sheet-rows-hold = refl
 
 day-rows-hold : all holds dayRows ≡ true
 unfolding holds dayRows refusalLine plannerResult planSheet fittingBook sizeRules
-    readBook readLoads headerRules loadRules someExceeds standingPairs mustRun optionStart standingPower first
+    readBook readLoads headerRules statesRatio ratioDigits ratioIn loadRules someExceeds standingPairs mustRun optionStart standingPower first
     isDigit digitValue digit valueFrom field digits signed unsigned lineLength
     slotsOf plan bestAdmitted cells trials reachedCount sheetBytes firstLine slotLines sumsAndLimits slotLine numbersOf settingOf
     booksFrom dayOutput dayRules dayOf dayFreeWords freeWords
 day-rows-hold = refl
 
-pub table-holds : all holds (planRows ++ standingRows ++ mustRunRows ++ dayRows ++ sheetRows) ≡ true
+ratio-rows-hold : all holds ratioRows ≡ true
+unfolding holds ratioRows programOutput refusalLine plannerResult planSheet fittingBook sizeRules
+    readBook readLoads headerRules statesRatio ratioDigits ratioIn loadRules someExceeds standingPairs mustRun optionStart standingPower first
+    isDigit digitValue digit valueFrom field digits signed unsigned lineLength
+    slotsOf plan bestAdmitted cells trials reachedCount sheetBytes firstLine slotLines sumsAndLimits slotLine numbersOf
+    quickResult quickSheet quickRules quickChoice takeIfFits sizeOf settingOf
+ratio-rows-hold = refl
+
+pub table-holds : all holds (planRows ++ standingRows ++ mustRunRows ++ dayRows ++ ratioRows ++ sheetRows) ≡ true
 table-holds =
-    both (planRows ++ standingRows ++ mustRunRows ++ dayRows) sheetRows
+    both (planRows ++ standingRows ++ mustRunRows ++ dayRows ++ ratioRows) sheetRows
+    (both (planRows ++ standingRows ++ mustRunRows ++ dayRows) ratioRows
     (both (planRows ++ standingRows ++ mustRunRows) dayRows
     (both (planRows ++ standingRows) mustRunRows (both planRows standingRows plan-rows-hold standing-rows-hold) must-run-rows-hold) day-rows-hold)
+    ratio-rows-hold)
     sheet-rows-hold
   where
     both : (xs ys : List Row) → all holds xs ≡ true → all holds ys ≡ true → all holds (xs ++ ys) ≡ true

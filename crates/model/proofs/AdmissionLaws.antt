@@ -178,9 +178,9 @@ slots-from : (n d r i : ℕ) (ss : List ℕ) → SlotsFor r n (slotsFrom n d r i
 slots-from n d r i [] = tt
 slots-from n d r i (s ∷ ss) = ((le-max-left 1 (s / (n * d)), refl, refl), slots-from n d r (suc i) ss)
 
-pub slots-for : (b : Problem) → SlotsFor 1 (length (b .loads)) (slotsOf b)
+pub slots-for : (b : Problem) → SlotsFor (b .ratio) (length (b .loads)) (slotsOf b)
 unfolding slotsOf
-slots-for b = slots-from (length (b .loads)) (b .fineness) 1 0 (b .limits)
+slots-for b = slots-from (length (b .loads)) (b .fineness) (b .ratio) 0 (b .limits)
 
 -- A CHOICE THAT KEEPS EVERY LIMIT IS ADMITTED
 pub keeps-admitted : (r n : ℕ) (slots : List Slot) → SlotsFor r n slots → (c : Choice) → length c ≡ n → T (keepsLimits slots c) → T (admitted slots c)

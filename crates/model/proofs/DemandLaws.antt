@@ -124,24 +124,24 @@ module _ (n d r i s : ℕ) (c : Choice) (few : length c ≤ n) (t : Dec.T (admit
 
 -- the slot of a book with that number
 abbrev slotIn : Problem → ℕ → Slot
-slotIn b slot = slotAt (N b) (b .fineness) 1 slot (S b slot)
+slotIn b slot = slotAt (N b) (b .fineness) (b .ratio) slot (S b slot)
 
 admitted-in : (b : Problem) (c : Choice) → Dec.T (admitted (slotsOf b) c)
     → (slot : ℕ) → slot < T b → Dec.T (admits (slotIn b slot) (gridIn (slotIn b slot) c))
 unfolding slotsOf
 admitted-in b c t slot l =
-    subst (λ j. Dec.T (admits (slotAt (N b) (b .fineness) 1 j (S b slot)) (gridIn (slotAt (N b) (b .fineness) 1 j (S b slot)) c))) (zero-add slot)
-    (admitted-at (N b) (b .fineness) 1 0 (b .limits) c t slot l)
+    subst (λ j. Dec.T (admits (slotAt (N b) (b .fineness) (b .ratio) j (S b slot)) (gridIn (slotAt (N b) (b .fineness) (b .ratio) j (S b slot)) c))) (zero-add slot)
+    (admitted-at (N b) (b .fineness) (b .ratio) 0 (b .limits) c t slot l)
 
 -- M-106 of an admitted choice
 closer-kept : (b : Problem) (c : Choice) → length c ≤ N b → Dec.T (admitted (slotsOf b) c) → CloserOverload b c
 closer-kept b c few t slot l =
     let h : Near (sumIn slot c .p) (natAbs (sumIn slot c .q)) (spreadOf (slotIn b slot)) (S b slot)
-    = here (N b) (b .fineness) 1 slot (S b slot) c few (admitted-in b c t slot (omega arith)) in
+    = here (N b) (b .fineness) (b .ratio) slot (S b slot) c few (admitted-in b c t slot (omega arith)) in
     omega (
       arith,
       Overload.closer (sumIn slot c .p) (natAbs (sumIn slot c .q)) (h .p) (h .q) (spreadOf (slotIn b slot)) (h .p-near) (h .q-near)
-          (b .fineness) (S b slot) (spread-small (N b) (b .fineness) 1 slot (S b slot)) (apparentSquaredIn slot c) (as-squares slot c) (h .keeps),
+          (b .fineness) (S b slot) (spread-small (N b) (b .fineness) (b .ratio) slot (S b slot)) (apparentSquaredIn slot c) (as-squares slot c) (h .keeps),
     )
 
 -- ---- the call
@@ -180,12 +180,12 @@ sheet-demand3 book b c t past e p =
       runs = book-runs book b e c (sound .0);
       worth = λ other m h.
           plan-worth b c p other m
-          (keeps-all (N b) (b .fineness) 1 0 (b .limits) other
+          (keeps-all (N b) (b .fineness) (b .ratio) 0 (b .limits) other
           (λ k l. subst (λ j. apparentSquared (sumIn j other) ≤ square (getD (b .limits) k 0)) (sym (zero-add k)) (h k l)));
       closer = closer;
       -- "The older bound then follows from this one", as 2d + 3 ≤ 2(d + 2); slot < T is asked anew, so that a claim of fewer slots is refused here
       overload = λ slot l. omega (arith, closer slot (omega arith));
-      exact = λ slot l small. slot-exact (N b) (b .fineness) 1 slot (S b slot) c few (admitted-in b c (sound .1) slot l) (omega arith);
+      exact = λ slot l small. slot-exact (N b) (b .fineness) (b .ratio) slot (S b slot) c few (admitted-in b c (sound .1) slot l) (omega arith);
     }
 
 -- DEMAND 3 of the call: whenever the answer has number 0

@@ -4,19 +4,20 @@
 use mathlib.Core.Path.{_≡_, refl, sym, ap, ap₂, _∙_, subst}
 use mathlib.Core.Logic.{_⊎_, inl, inr}
 use mathlib.Core.List.{List, [], _∷_}
-use Prim.Native.Nat.{ℕ, zero, suc, _+_, _*_, _-_, _<_, _≤_, _/_, _%_}
-use native.Mathlib.Nat.{mul-comm, mul-assoc, mul-le-mul-left, div-add-mod', mod-lt, div-lt-iff-lt-mul}
+use Prim.Native.Nat.{ℕ, _+_, _*_, _-_, _<_, _≤_, _/_, _%_}
+use native.Mathlib.Nat.{mul-comm, mul-assoc, mul-le-mul-left, mul-le-mul-right, div-add-mod', mod-lt, div-lt-iff-lt-mul}
 use native.Mathlib.Omega.{arith}
 use lib.Arith.{digits-lt, digits-div, digits-mod}
 use lib.Dec.{T, eqb, eqb→eq, eqb-refl}
 use lib.IntN.{ℤ, pos, negsuc, natAbs, subℕ, _+ℤ_}
 use lib.ListN.{length}
-use Rattle.model.specs.Lists.{sameLists}
+use Rattle.model.specs.Lists.{Every, sameLists}
 use Rattle.model.specs.Book.{Power}
 use Rattle.model.specs.Choice.{Choice, powerIn}
 use Rattle.model.specs.Grid.{Slot, floorDiv, gridIn}
 use Rattle.model.specs.Trials.{gridTop, widthOf, pairsOf, cellCount, sameℤ, samePair}
-use Rattle.model.specs.Index.{up, down, depthOf, raisedIn, rowIndex, columnIndex, rowCount, columnCount, indexOf, gridFrom}
+use Rattle.model.specs.Index.{up, down, depthOf, Within, raisedIn, rowIndex, columnIndex, rowCount, columnCount, indexOf, gridFrom}
+use Rattle.model.specs.Valid.{SettingKept}
 use Rattle.model.proofs.ListLaws.{both, each, bool-same}
 use Rattle.model.proofs.IntegerLaws.{split, sub-pos, sub-neg, sub-same, sub-add, as-sub}
 
@@ -36,12 +37,6 @@ cells-area (s ∷ slots) =
         ∙ ap (λ x. a * x) (sym (mul-assoc b c d) ∙ ap (λ x. x * d) (mul-comm b c) ∙ mul-assoc c b d)
         ∙ sym (mul-assoc a c (b * d))
         ∙ mul-comm (a * c) (b * d)
-
--- the pair is within its slot's range
-pub record Within (s : Slot) (g : Power) : Type 0 where
-  pub active : g .p ≤ gridTop s
-  pub low : down (g .q) ≤ depthOf s
-  pub high : up (g .q) + depthOf s < widthOf s
 
 abbrev pub WithinAll : List Slot → List Power → Type 0
 WithinAll [] [] = Unit {0}
@@ -172,49 +167,47 @@ module _ (r l : ℕ) (hr : 0 < r) (hl : 0 < l) where
   down-grid p (pos n) h = omega arith
   down-grid p (negsuc n) h = omega (arith, quotient-less r l n p hr hl (omega arith))
 
--- |Q| ≤ r P for each chosen setting in a slot
-abbrev pub Kept : ℕ → ℕ → Choice → Type 0
-Kept r place [] = Unit {0}
-Kept r place (v ∷ c) = (natAbs (powerIn place v .q) ≤ r * powerIn place v .p) × Kept r place c
-
 module _ (r : ℕ) (hr : 0 < r) (s : Slot) (hl : 0 < s .step) where
-  up-choice : (c : Choice) → Kept r (s .place) c → up (gridIn s c .q) + length c ≤ r * gridIn s c .p + r * length c
+  up-choice : (c : Choice) → Every (SettingKept r) c → up (gridIn s c .q) + length c ≤ r * gridIn s c .p + r * length c
   up-choice [] k = omega arith
   up-choice (v ∷ c) k =
       omega (
         arith,
         int-plus (floorDiv (powerIn (s .place) v .q) (s .step)) (gridIn s c .q) .0,
-        up-grid r (s .step) hr hl (powerIn (s .place) v .p) (powerIn (s .place) v .q) (k .0),
+        up-grid r (s .step) hr hl (powerIn (s .place) v .p) (powerIn (s .place) v .q) (k .0 (s .place)),
         up-choice c (k .1),
       )
 
-  down-choice : (c : Choice) → Kept r (s .place) c → down (gridIn s c .q) ≤ r * gridIn s c .p + r * length c
+  down-choice : (c : Choice) → Every (SettingKept r) c → down (gridIn s c .q) ≤ r * gridIn s c .p + r * length c
   down-choice [] k = omega arith
   down-choice (v ∷ c) k =
       omega (
         arith,
         int-plus (floorDiv (powerIn (s .place) v .q) (s .step)) (gridIn s c .q) .0,
         int-plus (floorDiv (powerIn (s .place) v .q) (s .step)) (gridIn s c .q) .1,
-        down-grid r (s .step) hr hl (powerIn (s .place) v .p) (powerIn (s .place) v .q) (k .0),
+        down-grid r (s .step) hr hl (powerIn (s .place) v .p) (powerIn (s .place) v .q) (k .0 (s .place)),
         down-choice c (k .1),
       )
 
--- the widest b: at most rR above 0 for what a brings, and (r - 1) N for what rounding does; as far below 0, and N more
-below-width : (r R N u a n : ℕ) → 0 < r → u + n ≤ r * a + r * n → a ≤ R → n ≤ N → u + (r * R + r * N) < 2 * r * R + (2 * r - 1) * N + 1
-below-width zero R N u a n some h k l = absurd (omega arith)
-below-width (suc r) R N u a n some h k l =
-    subst (λ m. u + (suc r * R + suc r * N) < 2 * suc r * R + m * N + 1) odd
-    (omega (arith, mul-le-mul-left (suc r) k, mul-le-mul-left r l))
-  where
-    odd : suc (r + r) ≡ 2 * suc r - 1
-    odd = omega arith
+-- THE WIDTH: as many values of b above 0 as below it, less N
+pub width-is : (s : Slot) → 0 < s .ratio → widthOf s + s .loads ≡ 2 * depthOf s + 1
+width-is s h = let odd : 2 * s .ratio - 1 + 1 ≡ 2 * s .ratio = omega arith in omega (arith, ap (λ m. m * s .loads) odd)
 
--- EVERY b OF A CHOICE WITH a ≤ R LIES WITHIN, for every ratio
-pub within-choice : (s : Slot) (c : Choice) → 0 < s .step → 0 < s .ratio → length c ≤ s .loads → Kept (s .ratio) (s .place) c
+-- EVERY b OF A CHOICE WITH a ≤ R LIES WITHIN, for every ratio: it is at most rR + (r - 1) × N, and at least -r × (R + N)
+pub within-choice : (s : Slot) (c : Choice) → 0 < s .step → 0 < s .ratio → length c ≤ s .loads → Every (SettingKept (s .ratio)) c
     → gridIn s c .p ≤ gridTop s → Within s (gridIn s c)
 within-choice s c hl hr n k a =
+    let rest : s .loads ≡ length c + (s .loads - length c) = omega arith in
     record {
       active = a;
       low = omega (arith, down-choice (s .ratio) hr s hl c k, mul-le-mul-left (s .ratio) a, mul-le-mul-left (s .ratio) n);
-      high = below-width (s .ratio) (gridTop s) (s .loads) (up (gridIn s c .q)) (gridIn s c .p) (length c) hr (up-choice (s .ratio) hr s hl c k) a n;
+      high =
+          omega (
+            arith,
+            up-choice (s .ratio) hr s hl c k,
+            mul-le-mul-left (s .ratio) a,
+            ap (λ m. s .ratio * m) rest,
+            mul-le-mul-right (s .loads - length c) hr,
+            width-is s hr,
+          );
     }

@@ -39,4 +39,5 @@ pub mod ReadingLaws
 pub mod OrderKeptLaws
 pub mod ViewLaws
 pub mod DayLaws
+pub mod RatioLaws
 pub mod AcceptanceTable

@@ -15,7 +15,7 @@ use borrow.Author.Tests.{ne-eqb, not-false}
 use Rattle.model.specs.Lists.{within, Mem}
 use Rattle.model.specs.Frames.{lineOf, afterLine, lineAt}
 use Rattle.model.specs.Refusals.{done}
-use Rattle.model.specs.Book.{Setting, Settings, Problem, slotCount, loadCount, optionCount, mustRun, options, standing, settings, loadRules, readLoads, readBook}
+use Rattle.model.specs.Book.{Setting, Settings, Problem, slotCount, loadCount, ratioIn, optionCount, mustRun, options, standing, settings, loadRules, readLoads, readBook}
 use Rattle.model.specs.Choice.{Choice, IsChoice, levelOn, firstSetting, leastOf}
 use Rattle.model.specs.MustRun.{leastNumber, RunsRequired, withStanding, ChoicesRun}
 use Rattle.model.specs.Quick.{firstSettings, quickChoice}
@@ -47,14 +47,14 @@ setting-runs t line v =
 
 -- ---- the loads on the lines of a book
 
-module _ (t : ℕ) where
-  runs : (k left number : ℕ) (lines : List ℕ) (loads : List Settings) → k ≤ left → readLoads t left number lines ≡ done loads → (c : Choice)
+module _ (t ratio : ℕ) where
+  runs : (k left number : ℕ) (lines : List ℕ) (loads : List Settings) → k ≤ left → readLoads t ratio left number lines ≡ done loads → (c : Choice)
       → IsChoice (take k loads) c ↔ (IsChoice (withStanding t k lines) c × RunsRequired lines c)
   runs zero left number lines loads few e [] = ((λ m. (m, λ k l. absurd (omega arith))), λ x. x .0)
   runs zero left number lines loads few e (v ∷ c) = ((λ m. absurd m), λ x. x .0)
   runs (suc k) zero number lines loads few e c = absurd (omega arith)
   runs (suc k) (suc left) number lines loads few e c =
-      let r : LoadsRead t left number lines loads = loads-read t left number lines loads e in
+      let r : LoadsRead t ratio left number lines loads = loads-read t ratio left number lines loads e in
       subst (λ ls. IsChoice (take (suc k) ls) c ↔ (IsChoice (withStanding t (suc k) lines) c × RunsRequired lines c)) (r .same)
       (both (r .others) (runs k left (suc number) (afterLine lines) (r .others) (le-of-suc-le-suc few) (r .rest)) c)
     where
@@ -78,15 +78,15 @@ module _ (t : ℕ) where
           back x = (setting-runs t (lineOf lines) v .1 (x .0 .0, x .1 0 (omega arith)), rest c .1 (x .0 .1, λ i l. x .1 (suc i) (omega arith)))
 
   -- the first number that load k + 1 offers
-  least-on : (left number : ℕ) (lines : List ℕ) (loads : List Settings) → readLoads t left number lines ≡ done loads → (k : ℕ) → k < left
+  least-on : (left number : ℕ) (lines : List ℕ) (loads : List Settings) → readLoads t ratio left number lines ≡ done loads → (k : ℕ) → k < left
       → leastOf (getD loads k []) ≡ leastNumber (lineAt k lines)
   unfolding loadRules
   least-on zero number lines loads e k l = absurd (omega arith)
   least-on (suc left) number lines loads e k l =
-      let r : LoadsRead t left number lines loads = loads-read t left number lines loads e in
+      let r : LoadsRead t ratio left number lines loads = loads-read t ratio left number lines loads e in
       subst (λ ls. leastOf (getD ls k []) ≡ leastNumber (lineAt k lines)) (r .same) (at k l (r .others) (some (r .rules)) (least-on left (suc number) (afterLine lines) (r .others) (r .rest)))
     where
-      some : NoneApplies (loadRules t (lineOf lines)) → 1 ≤ optionCount (lineOf lines)
+      some : NoneApplies (loadRules t ratio (lineOf lines)) → 1 ≤ optionCount (lineOf lines)
       some rules = within-is 1 3 (optionCount (lineOf lines)) (not-false (within 1 3 (optionCount (lineOf lines))) (rules .1 .1 .0)) .0
 
       at : (k : ℕ) → k < suc left → (others : List Settings) → 1 ≤ optionCount (lineOf lines)
@@ -98,7 +98,7 @@ module _ (t : ℕ) where
 -- THE CHOICES OF A BOOK run every load that must run, and are all that do
 pub choices-run : ChoicesRun
 choices-run book b e k l c =
-    runs (slotCount (lineOf book)) k (loadCount (lineOf book)) 2 (afterLine book) (b .loads) (omega (arith, loads-count book b e)) (book-read book b e .loads) c
+    runs (slotCount (lineOf book)) (ratioIn (lineOf book)) k (loadCount (lineOf book)) 2 (afterLine book) (b .loads) (omega (arith, loads-count book b e)) (book-read book b e .loads) c
 
 module _ (book : List ℕ) (b : Problem) (e : readBook book ≡ done b) where
   pub book-runs : (c : Choice) → IsChoice (b .loads) c → RunsRequired (afterLine book) c
@@ -107,7 +107,7 @@ module _ (book : List ℕ) (b : Problem) (e : readBook book ≡ done b) where
   module _ (k : ℕ) (l : k < length (b .loads)) where
     least-is : leastOf (getD (b .loads) k []) ≡ leastNumber (lineAt (suc k) book)
     least-is =
-        least-on (slotCount (lineOf book)) (loadCount (lineOf book)) 2 (afterLine book) (b .loads) (book-read book b e .loads) k (omega (arith, loads-count book b e))
+        least-on (slotCount (lineOf book)) (ratioIn (lineOf book)) (loadCount (lineOf book)) 2 (afterLine book) (b .loads) (book-read book b e .loads) k (omega (arith, loads-count book b e))
 
     -- THE QUICK PLANNER begins with what must run at option 1 and all others standing
     pub start-on : levelOn (firstSettings b) (suc k) ≡ leastNumber (lineAt (suc k) book)

@@ -10,7 +10,7 @@ use borrow.Author.Tests.{le-ltb}
 use Rattle.model.specs.Lists.{Every, upto, keepIf}
 use Rattle.model.specs.Frames.{field, lineOf, afterLine}
 use Rattle.model.specs.Refusals.{done}
-use Rattle.model.specs.Book.{noPower, Settings, Problem, slotCount, loadCount, standingPairs, mustRun, powerAt, options, standingPower, standing, settings, readLoads}
+use Rattle.model.specs.Book.{noPower, Settings, Problem, slotCount, loadCount, ratioIn, standingPairs, mustRun, powerAt, options, standingPower, standing, settings, readLoads}
 use Rattle.model.specs.Choice.{powerIn, sumIn, plus, square, apparentSquared, firstSetting}
 use Rattle.model.specs.Grid.{Slot, slotsOf, keepsLimits}
 use Rattle.model.specs.Calls.{plannerResult}
@@ -46,11 +46,11 @@ still-standing t line e =
 still-line : (t : ℕ) (line : List ℕ) → field line 0 2 ≡ 2 → Still (settings t line)
 still-line t line e = subst Still (sym (plain-settings t line e)) (still-standing t line e)
 
-still-loads : (t left number : ℕ) (bytes : List ℕ) (loads : List Settings) → readLoads t left number bytes ≡ done loads → Plain left bytes → Every Still loads
-still-loads t zero number bytes loads e p = subst (Every Still) (loads-none t number bytes loads e) tt
-still-loads t (suc left) number bytes loads e p =
-    let r : LoadsRead t left number bytes loads = loads-read t left number bytes loads e in
-    subst (Every Still) (r .same) (still-line t (lineOf bytes) (p .0), still-loads t left (suc number) (afterLine bytes) (r .others) (r .rest) (p .1))
+still-loads : (t r left number : ℕ) (bytes : List ℕ) (loads : List Settings) → readLoads t r left number bytes ≡ done loads → Plain left bytes → Every Still loads
+still-loads t r zero number bytes loads e p = subst (Every Still) (loads-none t r number bytes loads e) tt
+still-loads t r (suc left) number bytes loads e p =
+    let h : LoadsRead t r left number bytes loads = loads-read t r left number bytes loads e in
+    subst (Every Still) (h .same) (still-line t (lineOf bytes) (p .0), still-loads t r left (suc number) (afterLine bytes) (h .others) (h .rest) (p .1))
 
 still-sum : (loads : List Settings) → Every Still loads → (slot : ℕ) → sumIn slot (map firstSetting loads) ≡ noPower
 still-sum [] h slot = refl
@@ -68,5 +68,5 @@ pub plain-planned : (book : List ℕ) (words room : ℕ) (b : Problem) → Plain
     → answerOf (plannerResult book words room) .number ≡ 0
 plain-planned book words room b p h =
     let still : Every Still (b .loads)
-    = still-loads (slotCount (lineOf book)) (loadCount (lineOf book)) 2 (afterLine book) (b .loads) (book-read book b (h .reads) .loads) p in
+    = still-loads (slotCount (lineOf book)) (ratioIn (lineOf book)) (loadCount (lineOf book)) 2 (afterLine book) (b .loads) (book-read book b (h .reads) .loads) p in
     firsts-planned book words room b h (still-keeps (b .loads) still (slotsOf b))

@@ -208,4 +208,4 @@ plan-worth b d e c m k =
     ⊎-elim (λ l. omega arith) (λ q. omega (arith, q .0))
     (plan-is b d e .greatest c m
     (admitted-is (slotsOf b) c .0
-    (keeps-admitted 1 (length (b .loads)) (slotsOf b) (slots-for b) c (chosen-length (b .loads) c m) k)))
+    (keeps-admitted (b .ratio) (length (b .loads)) (slotsOf b) (slots-for b) c (chosen-length (b .loads) c m) k)))

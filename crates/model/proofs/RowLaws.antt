@@ -27,7 +27,7 @@ use Rattle.model.proofs.ListLaws.{both, each, bool-same, keep-same, eve
 use Rattle.model.proofs.IntegerLaws.{split}
 use Rattle.model.proofs.ChoiceLaws.{snoc, plusEach, grids-last}
 use Rattle.model.proofs.RecurrenceLaws.{bestOver, step, best-at-last}
-use Rattle.model.proofs.IndexLaws.{WithinAll, cells-area, column-below, int-plus}
+use Rattle.model.proofs.IndexLaws.{WithinAll, cells-area, column-below, int-plus, width-is}
 use Rattle.model.proofs.TableLaws.{each-choice, within-all, where-test, range-plus}
 use Rattle.model.proofs.LoopLaws.{ready-take}
 
@@ -344,14 +344,11 @@ cell-bounded top slots loads h i =
 
 -- ---- few rows: at most half as many as columns, and so within their bound (specs/Bounds, `mostRows`)
 
-wide : (r a l : ℕ) → 0 < r → 0 < l → 2 * (a + 1) ≤ 2 * r * a + (2 * r - 1) * l + 1
-wide r a l one h =
-    let odd : 1 ≤ 2 * r - 1 = omega arith in
-    omega (arith, mul-le-mul-right a one, mul-le-mul odd h)
-
 module _ (r n : ℕ) (hr : 0 < r) (hn : 0 < n) where
   wide-slot : (s : Slot) → s .loads ≡ n → s .ratio ≡ r → 2 * (gridTop s + 1) ≤ widthOf s
-  wide-slot s e f = wide (s .ratio) (gridTop s) (s .loads) (omega arith) (omega arith)
+  wide-slot s e f =
+      let one : 1 ≤ s .ratio = omega arith in
+      omega (arith, width-is s one, mul-le-mul-right (gridTop s) one, mul-le-mul-right (s .loads) one)
 
   rows-columns : (slots : List Slot) → SlotsFor r n slots → rowCount slots ≤ columnCount slots
   rows-columns [] z = omega arith

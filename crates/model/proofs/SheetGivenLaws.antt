@@ -57,7 +57,7 @@ keeps-some b c m k =
     record {
       choice = c;
       of-book = m;
-      admissible = admitted-is (slotsOf b) c .0 (keeps-admitted 1 (length (b .loads)) (slotsOf b) (slots-for b) c (chosen-length (b .loads) c m) k);
+      admissible = admitted-is (slotsOf b) c .0 (keeps-admitted (b .ratio) (length (b .loads)) (slotsOf b) (slots-for b) c (chosen-length (b .loads) c m) k);
     }
 
 -- ---- the planner's number

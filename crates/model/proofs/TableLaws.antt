@@ -16,13 +16,13 @@ use Rattle.model.specs.Grid.{Slot, gridIn, gridsOf, admits, bestAdmitted
 use Rattle.model.specs.Trials.{gridTop, cellCount, samePair, inRange, reachedCount}
 use Rattle.model.specs.Valid.{SettingKept, SlotsFor, Ready}
 use Rattle.model.specs.Cells.{bestKey, settingGrids, choiceKey, bestWhere, bestAt, admitsAll, joinUpto, isSome, countUpto, rangeAll, hasCell, cellBest}
-use Rattle.model.specs.Index.{indexOf}
+use Rattle.model.specs.Index.{Within, indexOf}
 use Rattle.model.proofs.ListLaws.{both, each, bool-same, every-imp, every-append, every-map, every-keep, keep-same}
 use Rattle.model.proofs.ChoiceLaws.{Sized, choices-sized, plusEach}
 use Rattle.model.proofs.RecurrenceLaws.{key?, plan-key}
 use Rattle.model.proofs.CellLaws.{best-by-cell, some-any, distinct-count}
 use Rattle.model.proofs.AdmissionLaws.{admits-range}
-use Rattle.model.proofs.IndexLaws.{gridAt, grid-back, WithinAll, index-below, index-apart, Kept, within-choice}
+use Rattle.model.proofs.IndexLaws.{gridAt, grid-back, WithinAll, index-below, index-apart, within-choice}
 
 -- ---- a property of every setting of every load holds in every choice
 
@@ -48,26 +48,30 @@ module _ (P : Setting → Type 0) (Q : Choice → Type 0) (loads : List Settings
   pub each-choice : Every (Every P) loads → Every Q (choices loads)
   each-choice h = each-of (choices loads) (choices-sized loads) (every-choice P loads h)
 
-kept : (r place : ℕ) (c : Choice) → Every (SettingKept r) c → Kept r place c
-kept r place [] h = tt
-kept r place (v ∷ c) h = (h .0 place, kept r place c (h .1))
-
 -- ---- the pairs that are in the table
 
 pub range-grids : (slots : List Slot) (c : Choice) → inRange slots c ≡ rangeAll slots (gridsOf slots c)
 range-grids [] c = refl
 range-grids (s ∷ slots) c = ap (λ t. leb (gridIn s c .p) (gridTop s) && t) (range-grids slots c)
 
+-- in each slot in which its a is at most R, the pair of a choice has a cell
+pub slots-within : (r n : ℕ) → 0 < r → (slots : List Slot) → SlotsFor r n slots → (c : Choice) → length c ≤ n → Every (SettingKept r) c
+    → Every (λ s. gridIn s c .p ≤ gridTop s → Within s (gridIn s c)) slots
+slots-within r n hr [] z c l k = tt
+slots-within r n hr (s ∷ slots) z c l k = (
+  within-choice s c (z .0 .0) (omega (arith, z .0 .2)) (omega (arith, z .0 .1)) (subst (λ x. Every (SettingKept x) c) (sym (z .0 .2)) k),
+  slots-within r n hr slots (z .1) c l k,
+)
+
 pub within-all : (r n : ℕ) → 0 < r → (slots : List Slot) → SlotsFor r n slots → (c : Choice) → length c ≤ n → Every (SettingKept r) c
     → T (rangeAll slots (gridsOf slots c)) → WithinAll slots (gridsOf slots c)
-within-all r n hr [] z c l k t = tt
-within-all r n hr (s ∷ slots) z c l k t = (
-  within-choice s c (z .0 .0) (omega (arith, z .0 .2)) (omega (arith, l, z .0 .1)) (kept (s .ratio) (s .place) c (subst (λ x. Every (SettingKept x) c) (sym (z .0 .2)) k)) (leb→le _ _ (parts .0)),
-  within-all r n hr slots (z .1) c l k (parts .1),
-)
+within-all r n hr slots z c l k = go slots (slots-within r n hr slots z c l k)
   where
-    parts : T (leb (gridIn s c .p) (gridTop s)) × T (rangeAll slots (gridsOf slots c))
-    parts = both (leb (gridIn s c .p) (gridTop s)) (rangeAll slots (gridsOf slots c)) t
+    go : (ss : List Slot) → Every (λ s. gridIn s c .p ≤ gridTop s → Within s (gridIn s c)) ss → T (rangeAll ss (gridsOf ss c)) → WithinAll ss (gridsOf ss c)
+    go [] w t = tt
+    go (s ∷ ss) w t =
+        let parts : T (leb (gridIn s c .p) (gridTop s)) × T (rangeAll ss (gridsOf ss c)) = both (leb (gridIn s c .p) (gridTop s)) (rangeAll ss (gridsOf ss c)) t in
+        (w .0 (leb→le _ _ (parts .0)), go ss (w .1) (parts .1))
 
 -- all choices whose pairs are in range have a cell
 pub choices-within : (r n : ℕ) (slots : List Slot) (loads : List Settings) → Ready r n slots loads

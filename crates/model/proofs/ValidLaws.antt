@@ -1,4 +1,4 @@
--- What a book that was read is known to have: its counts and sizes, and |Q| ≤ P in every setting; and that no refusal of the reader has a number above 8.
+-- What a book that was read is known to have: its counts and sizes, and |Q| ≤ r × P in every setting; and that no refusal of the reader has a number above 8.
 -- Assumes nothing.
 use mathlib.Core.Path.{_≡_, refl, sym, ap, _∙_, subst}
 use mathlib.Core.Bool.{Bool, false, true, cond, not, _&&_}
@@ -11,10 +11,10 @@ use lib.ListN.{length, getD}
 use borrow.Author.Tests.{ltb-false, not-false}
 use Rattle.model.specs.declared.Finding.the-variants.{Passed}
 use Rattle.model.specs.Lists.{within, uptoFrom, upto, keepIf, any, Every}
-use Rattle.model.specs.Bounds.{mostLoads, mostFineness, mostSheet}
+use Rattle.model.specs.Bounds.{mostSlots, mostLoads, mostFineness, mostRatio, mostSheet}
 use Rattle.model.specs.Frames.{field, lineOf, afterLine}
 use Rattle.model.specs.Refusals.{Result, done, first, andThen}
-use Rattle.model.specs.Book.{Power, noPower, Setting, Settings, Problem, slotCount, loadCount, finenessIn, problem, optionCount, standingPairs, mustRun, optionStart, powerAt, optionOn, options, standingPower, standing, settings, lineRule, headerRules, reactiveExceeds, someExceeds, loadRules, endRules, readLoads, readBook}
+use Rattle.model.specs.Book.{Power, noPower, Setting, Settings, Problem, slotCount, loadCount, finenessIn, ratioDigits, ratioIn, problem, optionCount, standingPairs, mustRun, optionStart, powerAt, optionOn, options, standingPower, standing, settings, lineRule, headerRules, reactiveExceeds, someExceeds, loadRules, endRules, readLoads, readBook}
 use Rattle.model.specs.Choice.{leastOf}
 use Rattle.model.specs.MustRun.{leastNumber}
 use Rattle.model.specs.Sheet.{sheetLength}
@@ -27,16 +27,16 @@ use Rattle.model.proofs.NumberLaws.{numbered-least, labelled-from}
 
 -- ---- the settings that a line gives
 
-kept-setting : (v : Setting) → Every (λ x. reactiveExceeds x ≡ false) (v .powers) → SettingKept 1 v
-kept-setting v h =
-    every-getD (λ x. natAbs (x .q) ≤ 1 * x .p) (v .powers) noPower (omega arith)
-    (every-imp (λ x. reactiveExceeds x ≡ false) (λ x. natAbs (x .q) ≤ 1 * x .p) (λ x e. omega (arith, ltb-false (x .p) (natAbs (x .q)) e)) (v .powers) h)
+kept-setting : (r : ℕ) (v : Setting) → Every (λ x. reactiveExceeds r x ≡ false) (v .powers) → SettingKept r v
+kept-setting r v h =
+    every-getD (λ x. natAbs (x .q) ≤ r * x .p) (v .powers) noPower (omega arith)
+    (every-imp (λ x. reactiveExceeds r x ≡ false) (λ x. natAbs (x .q) ≤ r * x .p) (λ x e. ltb-false (r * x .p) (natAbs (x .q)) e) (v .powers) h)
 
-kept-settings : (vs : Settings) → someExceeds vs ≡ false → Every (SettingKept 1) vs
+kept-settings : (r : ℕ) (vs : Settings) → someExceeds r vs ≡ false → Every (SettingKept r) vs
 unfolding someExceeds
-kept-settings vs e =
-    every-imp (λ v. any reactiveExceeds (v .powers) ≡ false) (SettingKept 1) (λ v q. kept-setting v (any-false reactiveExceeds (v .powers) q)) vs
-    (any-false (λ v. any reactiveExceeds (v .powers)) vs e)
+kept-settings r vs e =
+    every-imp (λ v. any (reactiveExceeds r) (v .powers) ≡ false) (SettingKept r) (λ v q. kept-setting r v (any-false (reactiveExceeds r) (v .powers) q)) vs
+    (any-false (λ v. any (reactiveExceeds r) (v .powers)) vs e)
 
 numbered-options : (f : ℕ → Setting) → ((j : ℕ) → f j .number ≡ suc j) → (i n : ℕ) → Numbered (suc i) (map f (uptoFrom i n))
 numbered-options f h i zero = tt
@@ -122,69 +122,91 @@ small-settings t line =
 
 -- ---- the loads
 
-good-none : (t : ℕ) → ValidLoads 0 t []
-good-none t = record { count = refl; keeps = tt; labels = tt; powers = tt; small = tt }
+good-none : (t r : ℕ) → ValidLoads 0 t r []
+good-none t r = record { count = refl; keeps = tt; labels = tt; powers = tt; small = tt }
 
-good-more : (n t : ℕ) (line : List ℕ) (loads : List Settings) → NoneApplies (loadRules t line) → ValidLoads n t loads
-    → ValidLoads (suc n) t (settings t line ∷ loads)
+good-more : (n t r : ℕ) (line : List ℕ) (loads : List Settings) → NoneApplies (loadRules t r line) → ValidLoads n t r loads
+    → ValidLoads (suc n) t r (settings t line ∷ loads)
 unfolding loadRules
-good-more n t line loads rules g =
+good-more n t r line loads rules g =
     record {
       count = ap suc (g .count);
-      keeps = (kept-settings (settings t line) (rules .1 .1 .1 .1 .0), g .keeps);
+      keeps = (kept-settings r (settings t line) (rules .1 .1 .1 .1 .0), g .keeps);
       labels = (labelled-settings t line (not-false (within 1 3 (optionCount line)) (rules .1 .1 .0)), g .labels);
       powers = (sized-settings t line, g .powers);
       small = (small-settings t line, g .small);
     }
 
 -- how the loads that were read came from the lines: none of the rules applies to the first, and the others are read from what is after it
-pub record LoadsRead (t left number : ℕ) (bytes : List ℕ) (loads : List Settings) : Type 0 where
-  pub rules : NoneApplies (loadRules t (lineOf bytes))
+pub record LoadsRead (t r left number : ℕ) (bytes : List ℕ) (loads : List Settings) : Type 0 where
+  pub rules : NoneApplies (loadRules t r (lineOf bytes))
   pub others : List Settings
-  pub rest : readLoads t left (suc number) (afterLine bytes) ≡ done others
+  pub rest : readLoads t r left (suc number) (afterLine bytes) ≡ done others
   pub same : settings t (lineOf bytes) ∷ others ≡ loads
 
-pub loads-read : (t left number : ℕ) (bytes : List ℕ) (loads : List Settings) → readLoads t (suc left) number bytes ≡ done loads
-    → LoadsRead t left number bytes loads
+pub loads-read : (t r left number : ℕ) (bytes : List ℕ) (loads : List Settings) → readLoads t r (suc left) number bytes ≡ done loads
+    → LoadsRead t r left number bytes loads
 unfolding readLoads
-loads-read t left number bytes loads e =
-    let rest : Result (List Settings) = readLoads t left (suc number) (afterLine bytes) in
+loads-read t r left number bytes loads e =
+    let rest : Result (List Settings) = readLoads t r left (suc number) (afterLine bytes) in
     let more : List Settings → Result (List Settings) = λ ls. done (settings t (lineOf bytes) ∷ ls) in
-    let c : (first (lineRule bytes ∷ loadRules t (lineOf bytes)) ≡ Passed) × (andThen rest more ≡ done loads)
-    = checked-done number (first (lineRule bytes ∷ loadRules t (lineOf bytes))) (andThen rest more) loads e in
+    let c : (first (lineRule bytes ∷ loadRules t r (lineOf bytes)) ≡ Passed) × (andThen rest more ≡ done loads)
+    = checked-done number (first (lineRule bytes ∷ loadRules t r (lineOf bytes))) (andThen rest more) loads e in
     let d : (ls : List Settings) × (rest ≡ done ls) × (more ls ≡ done loads) = then-done rest more loads (c .1) in
     record {
-      rules = first-passed (lineRule bytes ∷ loadRules t (lineOf bytes)) (c .0) .1;
+      rules = first-passed (lineRule bytes ∷ loadRules t r (lineOf bytes)) (c .0) .1;
       others = d .0;
       rest = d .1;
       same = done-same (settings t (lineOf bytes) ∷ d .0) loads (d .2);
     }
 
 -- where no line is left there is no load
-pub loads-none : (t number : ℕ) (bytes : List ℕ) (loads : List Settings) → readLoads t 0 number bytes ≡ done loads → [] ≡ loads
+pub loads-none : (t r number : ℕ) (bytes : List ℕ) (loads : List Settings) → readLoads t r 0 number bytes ≡ done loads → [] ≡ loads
 unfolding readLoads
-loads-none t number bytes loads e = done-same [] loads (checked-done number (first (endRules bytes)) (done []) loads e .1)
+loads-none t r number bytes loads e = done-same [] loads (checked-done number (first (endRules bytes)) (done []) loads e .1)
 
-pub loads-valid : (t left number : ℕ) (bytes : List ℕ) (loads : List Settings) → readLoads t left number bytes ≡ done loads → ValidLoads left t loads
-loads-valid t zero number bytes loads e = subst (ValidLoads 0 t) (loads-none t number bytes loads e) (good-none t)
-loads-valid t (suc left) number bytes loads e =
-    let r : LoadsRead t left number bytes loads = loads-read t left number bytes loads e in
-    subst (ValidLoads (suc left) t) (r .same)
-    (good-more left t (lineOf bytes) (r .others) (r .rules) (loads-valid t left (suc number) (afterLine bytes) (r .others) (r .rest)))
+pub loads-valid : (t r left number : ℕ) (bytes : List ℕ) (loads : List Settings) → readLoads t r left number bytes ≡ done loads → ValidLoads left t r loads
+loads-valid t r zero number bytes loads e = subst (ValidLoads 0 t r) (loads-none t r number bytes loads e) (good-none t r)
+loads-valid t r (suc left) number bytes loads e =
+    let h : LoadsRead t r left number bytes loads = loads-read t r left number bytes loads e in
+    subst (ValidLoads (suc left) t r) (h .same)
+    (good-more left t r (lineOf bytes) (h .others) (h .rules) (loads-valid t r left (suc number) (afterLine bytes) (h .others) (h .rest)))
 
 -- ---- the book
+
+-- what a header line that is not refused states
+pub record HeaderRanges (line : List ℕ) : Type 0 where
+  pub slots : (1 ≤ slotCount line) × (slotCount line ≤ mostSlots)
+  pub loads : (1 ≤ loadCount line) × (loadCount line ≤ mostLoads)
+  pub fineness : (1 ≤ finenessIn line) × (finenessIn line ≤ mostFineness)
+  pub ratio : (1 ≤ ratioIn line) × (ratioIn line ≤ mostRatio)
+
+pub header-ranges : (line : List ℕ) → NoneApplies (headerRules line) → HeaderRanges line
+unfolding headerRules
+header-ranges line rules =
+    let n : Bool = within 1 mostLoads (loadCount line) in
+    let d : Bool = within 1 mostFineness (finenessIn line) in
+    let r : Bool = within 1 mostRatio (ratioIn line) in
+    let w : ((n && d) ≡ true) × (r ≡ true) = both-true (n && d) r (not-false (n && d && r) (rules .1 .1 .1 .1 .0)) in
+    let v : (n ≡ true) × (d ≡ true) = both-true n d (w .0) in
+    record {
+      slots = within-is 1 mostSlots (slotCount line) (not-false (within 1 mostSlots (slotCount line)) (rules .1 .1 .0));
+      loads = within-is 1 mostLoads (loadCount line) (v .0);
+      fineness = within-is 1 mostFineness (finenessIn line) (v .1);
+      ratio = within-is 1 mostRatio (ratioIn line) (w .1);
+    }
 
 -- how a book that was read came from its bytes
 pub record BookRead (bytes : List ℕ) (b : Problem) : Type 0 where
   pub rules : NoneApplies (headerRules (lineOf bytes))
-  pub loads : readLoads (slotCount (lineOf bytes)) (loadCount (lineOf bytes)) 2 (afterLine bytes) ≡ done (b .loads)
+  pub loads : readLoads (slotCount (lineOf bytes)) (ratioIn (lineOf bytes)) (loadCount (lineOf bytes)) 2 (afterLine bytes) ≡ done (b .loads)
   pub same : problem (lineOf bytes) (b .loads) ≡ b
 
 pub book-read : (bytes : List ℕ) (b : Problem) → readBook bytes ≡ done b → BookRead bytes b
 unfolding readBook
 book-read bytes b e =
     let line : List ℕ = lineOf bytes in
-    let rest : Result (List Settings) = readLoads (slotCount line) (loadCount line) 2 (afterLine bytes) in
+    let rest : Result (List Settings) = readLoads (slotCount line) (ratioIn line) (loadCount line) 2 (afterLine bytes) in
     let whole : List Settings → Result Problem = λ ls. done (problem line ls) in
     let c : (first (lineRule bytes ∷ headerRules line) ≡ Passed) × (andThen rest whole ≡ done b)
     = checked-done 1 (first (lineRule bytes ∷ headerRules line)) (andThen rest whole) b e in
@@ -197,42 +219,44 @@ book-read bytes b e =
     })
 
 module _ (bytes : List ℕ) (b : Problem) (e : readBook bytes ≡ done b) where
-  good : ValidLoads (loadCount (lineOf bytes)) (slotCount (lineOf bytes)) (b .loads)
-  good = loads-valid (slotCount (lineOf bytes)) (loadCount (lineOf bytes)) 2 (afterLine bytes) (b .loads) (book-read bytes b e .loads)
+  good : ValidLoads (loadCount (lineOf bytes)) (slotCount (lineOf bytes)) (ratioIn (lineOf bytes)) (b .loads)
+  good =
+      loads-valid (slotCount (lineOf bytes)) (ratioIn (lineOf bytes)) (loadCount (lineOf bytes)) 2 (afterLine bytes) (b .loads) (book-read bytes b e .loads)
 
-  -- N and T are the header's
+  -- N, T and r are the header's
   pub loads-count : length (b .loads) ≡ loadCount (lineOf bytes)
   loads-count = good .count
 
   pub slots-count : length (b .limits) ≡ slotCount (lineOf bytes)
   slots-count =
       ap (λ (x : Problem). length (x .limits)) (sym (book-read bytes b e .same))
-      ∙ length-upto (λ s. field (lineOf bytes) (16 + 4 * s) 4) (slotCount (lineOf bytes))
+      ∙ length-upto (λ s. field (lineOf bytes) (16 + ratioDigits (lineOf bytes) + 4 * s) 4) (slotCount (lineOf bytes))
+
+  ratio-is : b .ratio ≡ ratioIn (lineOf bytes)
+  ratio-is = ap (λ (x : Problem). x .ratio) (sym (book-read bytes b e .same))
 
   pub book-valid : ValidBook b
-  unfolding headerRules
   book-valid =
       let line : List ℕ = lineOf bytes in
-      let r : BookRead bytes b = book-read bytes b e in
-      let s : (1 ≤ slotCount line) × (slotCount line ≤ 4) = within-is 1 4 (slotCount line) (not-false (within 1 4 (slotCount line)) (r .rules .1 .1 .0)) in
-      let w : (within 1 mostLoads (loadCount line) ≡ true) × (within 1 mostFineness (finenessIn line) ≡ true)
-      = both-true (within 1 mostLoads (loadCount line)) (within 1 mostFineness (finenessIn line))
-      (not-false (within 1 mostLoads (loadCount line) && within 1 mostFineness (finenessIn line)) (r .rules .1 .1 .1 .1 .0)) in
-      let n : (1 ≤ loadCount line) × (loadCount line ≤ mostLoads) = within-is 1 mostLoads (loadCount line) (w .0) in
-      let d : (1 ≤ finenessIn line) × (finenessIn line ≤ 64) = within-is 1 64 (finenessIn line) (w .1) in
-      let fine : finenessIn line ≡ b .fineness = ap (λ (x : Problem). x .fineness) (r .same) in
+      let read : BookRead bytes b = book-read bytes b e in
+      let h : HeaderRanges line = header-ranges line (read .rules) in
+      let fine : finenessIn line ≡ b .fineness = ap (λ (x : Problem). x .fineness) (read .same) in
       record {
-        loads = subst (λ k. ValidLoads k (length (b .limits)) (b .loads)) (sym loads-count)
-            (subst (λ k. ValidLoads (loadCount line) k (b .loads)) (sym slots-count) good);
-        slots-some = omega (arith, slots-count, s .0);
-        slots-few = omega (arith, slots-count, s .1);
-        loads-some = omega (arith, loads-count, n .0);
-        loads-few = omega (arith, loads-count, n .1);
-        fine-some = omega (arith, d .0);
-        fine-few = omega (arith, d .1);
-        budget-small = omega (arith, ap (λ (x : Problem). x .budget) (r .same), field-below line 8 8);
-        limits-small = subst (λ (x : Problem). Every (λ s. s < 65536) (x .limits)) (r .same)
-            (every-image (λ s. s < 65536) (λ s. field line (16 + 4 * s) 4) (upto (slotCount line)) (λ s. field-below line (16 + 4 * s) 4));
+        loads = subst (λ r. ValidLoads (length (b .loads)) (length (b .limits)) r (b .loads)) (sym ratio-is)
+            (subst (λ k. ValidLoads k (length (b .limits)) (ratioIn line) (b .loads)) (sym loads-count)
+            (subst (λ k. ValidLoads (loadCount line) k (ratioIn line) (b .loads)) (sym slots-count) good));
+        slots-some = omega (arith, slots-count, h .slots .0);
+        slots-few = omega (arith, slots-count, h .slots .1);
+        loads-some = omega (arith, loads-count, h .loads .0);
+        loads-few = omega (arith, loads-count, h .loads .1);
+        fine-some = omega (arith, h .fineness .0);
+        fine-few = omega (arith, h .fineness .1);
+        ratio-some = omega (arith, ratio-is, h .ratio .0);
+        ratio-few = omega (arith, ratio-is, h .ratio .1);
+        budget-small = omega (arith, ap (λ (x : Problem). x .budget) (read .same), field-below line (8 + ratioDigits line) 8);
+        limits-small = subst (λ (x : Problem). Every (λ s. s < 65536) (x .limits)) (read .same)
+            (every-image (λ s. s < 65536) (λ s. field line (16 + ratioDigits line + 4 * s) 4) (upto (slotCount line))
+            (λ s. field-below line (16 + ratioDigits line + 4 * s) 4));
       }
 
 pub load-labelled : {b : Problem} → ValidBook b → (k : ℕ) → k < length (b .loads) → Labelled (getD (b .loads) k [])
@@ -240,31 +264,31 @@ load-labelled {b} valid k l = every-at Labelled (b .loads) [] (valid .loads .lab
 
 -- ---- the reader's refusals are 1 to 8
 
-load-rules-most : (t : ℕ) (line : List ℕ) → RulesMost 8 (loadRules t line)
+load-rules-most : (t r : ℕ) (line : List ℕ) → RulesMost 8 (loadRules t r line)
 unfolding loadRules
-load-rules-most t line = (omega arith, (omega arith, (omega arith, (omega arith, (omega arith, tt)))))
+load-rules-most t r line = (omega arith, (omega arith, (omega arith, (omega arith, (omega arith, tt)))))
 
 header-rules-most : (line : List ℕ) → RulesMost 8 (headerRules line)
 unfolding headerRules
 header-rules-most line = (omega arith, (omega arith, (omega arith, (omega arith, (omega arith, tt)))))
 
-loads-most : (t left number : ℕ) (bytes : List ℕ) → NumberMost 8 (readLoads t left number bytes)
+loads-most : (t r left number : ℕ) (bytes : List ℕ) → NumberMost 8 (readLoads t r left number bytes)
 unfolding readLoads
-loads-most t zero number bytes = checked-most 8 number (endRules bytes) (done []) (omega arith, tt) tt
-loads-most t (suc left) number bytes =
-    let rest : Result (List Settings) = readLoads t left (suc number) (afterLine bytes) in
+loads-most t r zero number bytes = checked-most 8 number (endRules bytes) (done []) (omega arith, tt) tt
+loads-most t r (suc left) number bytes =
+    let rest : Result (List Settings) = readLoads t r left (suc number) (afterLine bytes) in
     let more : List Settings → Result (List Settings) = λ ls. done (settings t (lineOf bytes) ∷ ls) in
-    checked-most 8 number (lineRule bytes ∷ loadRules t (lineOf bytes)) (andThen rest more) (omega arith, load-rules-most t (lineOf bytes))
-    (then-most 8 rest more (loads-most t left (suc number) (afterLine bytes)) (λ ls. tt))
+    checked-most 8 number (lineRule bytes ∷ loadRules t r (lineOf bytes)) (andThen rest more) (omega arith, load-rules-most t r (lineOf bytes))
+    (then-most 8 rest more (loads-most t r left (suc number) (afterLine bytes)) (λ ls. tt))
 
 pub book-most : (bytes : List ℕ) → NumberMost 8 (readBook bytes)
 unfolding readBook
 book-most bytes =
     let line : List ℕ = lineOf bytes in
-    let rest : Result (List Settings) = readLoads (slotCount line) (loadCount line) 2 (afterLine bytes) in
+    let rest : Result (List Settings) = readLoads (slotCount line) (ratioIn line) (loadCount line) 2 (afterLine bytes) in
     let whole : List Settings → Result Problem = λ ls. done (problem line ls) in
     checked-most 8 1 (lineRule bytes ∷ headerRules line) (andThen rest whole) (omega arith, header-rules-most line)
-    (then-most 8 rest whole (loads-most (slotCount line) (loadCount line) 2 (afterLine bytes)) (λ ls. tt))
+    (then-most 8 rest whole (loads-most (slotCount line) (ratioIn line) (loadCount line) 2 (afterLine bytes)) (λ ls. tt))
 
 -- no sheet has more than 159 bytes
 pub sheet-few : (b : Problem) → ValidBook b → sheetLength b ≤ mostSheet

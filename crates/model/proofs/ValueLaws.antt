@@ -108,7 +108,7 @@ valid-kept b g =
     (load-labelled g k l)
     (every-at (Every (λ v. length (v .powers) ≡ length (b .limits))) (b .loads) [] (g .loads .powers) k l)
     (every-at (Every SettingSmall) (b .loads) [] (g .loads .small) k l)) in
-    λ i. record { fineness = b .fineness; budget = b .budget; limits = limits-are i; loads = loads-are i }
+    λ i. record { fineness = b .fineness; ratio = b .ratio; budget = b .budget; limits = limits-are i; loads = loads-are i }
 
 pub held-kept : (v : Book) (h : Held v) → problemOf v ≡ h .b
 held-kept v h = ap problemOf (h .is) ∙ valid-kept (h .b) (h .valid)

@@ -1,4 +1,4 @@
--- The planner's result, and which words it may change (document 01, "Trials and the work area", "Refusals by number" 9 to 12; document 02, M-104 and M-105).
+-- The planner's result, and which words it may change (document 01, "Trials and the work area", "Refusals by number" 9 to 12; document 02, M-104, M-105 and M-108).
 use Prim.Native.Nat.{ℕ}
 use mathlib.Core.List.{List, [], _∷_}
 use mathlib.Core.Option.{Option, none, some}
@@ -13,7 +13,7 @@ use Rattle.model.specs.Trials.{cells, neededWords, trials}
 use Rattle.model.specs.Answers.{Output, roomRule}
 use Rattle.model.specs.Sheet.{sheetOf, sheetLength}
 
--- "Then 8 to 13", with line 0. 9: "cells over 1,048,576"; 10: "work area under 4 × cells words"; 11: "buffer shorter than the sheet"
+-- "Then 8 to 13", with line 0. 9: "cells over 1,048,576"; 10: "work area under 4 × cells words", both by M-108's cells; 11: "buffer shorter than the sheet"
 unfoldable pub sizeRules : Problem → ℕ → ℕ → List Rule
 sizeRules b words room =
     (ltb mostCells (cells b) ⇒ TooManyCells)

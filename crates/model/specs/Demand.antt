@@ -1,5 +1,6 @@
 -- The buyer's demand 3, with M-104, M-105 and M-106 of document 02: when the planner gives a sheet, and what holds of the book's bytes and the bytes of the
--- sheet buffer after a call that gave one.
+-- sheet buffer after a call that gave one. M-108: "Everything said about best choice and overload holds for each r": it is said of every book that is read, and
+-- no sentence of it asks for r.
 use Prim.Native.Nat.{ℕ, _+_, _*_, _<_, _≤_}
 use mathlib.Core.Path.{_≡_}
 use mathlib.Core.List.{List}

@@ -1,4 +1,5 @@
--- The grid, admission and the plan (document 01, "Choice, sums and grid"; document 02, M-104 and M-105).
+-- The grid, admission and the plan (document 01, "Choice, sums and grid"; document 02, M-104 and M-105). None of these asks for the ratio of M-108, which a slot
+-- has for its cells (Trials).
 use Prim.Native.Nat.{ℕ, suc, _+_, _*_, _-_, _/_, _<_, _≤_, max}
 use mathlib.Core.Path.{_≡_}
 use mathlib.Core.Logic.{_⊎_}
@@ -32,9 +33,9 @@ abbrev pub slotsFrom : ℕ → ℕ → ℕ → ℕ → List ℕ → List Slot
 slotsFrom n d r i [] = []
 slotsFrom n d r i (s ∷ ss) = slotAt n d r i s ∷ slotsFrom n d r (suc i) ss
 
--- the slots of a book; its ratio is 1, as "|Q| ≤ P"
+-- the slots of a book
 unfoldable pub slotsOf : Problem → List Slot
-slotsOf b = slotsFrom (length (b .loads)) (b .fineness) 1 0 (b .limits)
+slotsOf b = slotsFrom (length (b .loads)) (b .fineness) (b .ratio) 0 (b .limits)
 
 -- the true sums keep P² + Q² ≤ S² in every slot
 abbrev pub keepsLimits : List Slot → Choice → Bool

@@ -1,5 +1,5 @@
 -- The table's cells by rows: which cell a list of grid pairs has. No section of document 01, which asks only for a cell for each list.
-use Prim.Native.Nat.{ℕ, suc, _+_, _*_, _-_, _/_, _%_}
+use Prim.Native.Nat.{ℕ, suc, _+_, _*_, _-_, _/_, _%_, _<_, _≤_}
 use mathlib.Core.List.{List, [], _∷_}
 use lib.IntN.{ℤ, pos, negsuc, subℕ}
 use Rattle.model.specs.Book.{Power}
@@ -18,6 +18,12 @@ down (negsuc n) = suc n
 -- how far below 0 a b can be, where a is at most R
 abbrev pub depthOf : Slot → ℕ
 depthOf s = s .ratio * gridTop s + s .ratio * s .loads
+
+-- a pair that has a cell: a is at most R, and b, from the depth below 0 on, is one of the slot's values
+pub record Within (s : Slot) (g : Power) : Type 0 where
+  pub active : g .p ≤ gridTop s
+  pub low : down (g .q) ≤ depthOf s
+  pub high : up (g .q) + depthOf s < widthOf s
 
 -- b from 0 on
 abbrev pub raisedIn : Slot → Power → ℕ

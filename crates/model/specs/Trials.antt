@@ -1,4 +1,4 @@
--- Trials and the work area (document 01, "Trials and the work area"; document 02, M-104 and M-105).
+-- Trials and the work area (document 01, "Trials and the work area"; document 02, M-104, M-105 and M-108).
 use Prim.Native.Nat.{ℕ, _+_, _*_, _-_, _/_}
 use mathlib.Core.Path.{_≡_}
 use mathlib.Core.Bool.{Bool, false, _&&_}
@@ -17,11 +17,11 @@ use Rattle.model.specs.Grid.{Slot, slotsOf, GridPair, gridIn, gridsOf}
 abbrev pub gridTop : Slot → ℕ
 gridTop s = s .limit / s .step
 
--- how many values b can have where a is at most R: 2rR + (2r - 1) × N + 1
+-- 2rR + (2r - 1) × N + 1: among so many values is the b of every choice whose a is at most R (Ratio, `PairsWithin`)
 abbrev pub widthOf : Slot → ℕ
 widthOf s = 2 * s .ratio * gridTop s + (2 * s .ratio - 1) * s .loads + 1
 
--- "a slot has (R + 1) × (2R + N + 1) grid pairs", where the ratio is 1
+-- "a slot has (R + 1) × (2R + N + 1) grid pairs"; M-108: "The grid pairs of a slot become (R + 1) × (2rR + (2r - 1) × N + 1)"
 abbrev pub pairsOf : Slot → ℕ
 pairsOf s = (gridTop s + 1) * widthOf s
 

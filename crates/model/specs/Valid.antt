@@ -5,12 +5,12 @@ use mathlib.Core.List.{List, [], _∷_}
 use lib.IntN.{natAbs}
 use lib.ListN.{length}
 use Rattle.model.specs.Lists.{Every}
-use Rattle.model.specs.Bounds.{mostSlots, mostLoads, mostFineness, mostOptions, mostSettings}
+use Rattle.model.specs.Bounds.{mostSlots, mostLoads, mostFineness, mostRatio, mostOptions, mostSettings}
 use Rattle.model.specs.Book.{Setting, Settings, Problem}
 use Rattle.model.specs.Choice.{leastOf, powerIn}
 use Rattle.model.specs.Grid.{Slot}
 
--- |Q| ≤ r P in every slot; document 01 has "|Q| ≤ P", which is r = 1
+-- |Q| ≤ r × P in every slot (document 02, M-108); document 01 has "|Q| ≤ P", which is r = 1
 abbrev pub SettingKept : ℕ → Setting → Type 0
 SettingKept r v = (slot : ℕ) → natAbs (powerIn slot v .q) ≤ r * powerIn slot v .p
 
@@ -32,23 +32,25 @@ pub record SettingSmall (v : Setting) : Type 0 where
   pub active : (slot : ℕ) → powerIn slot v .p < 65536
   pub reactive : (slot : ℕ) → natAbs (powerIn slot v .q) ≤ 32768
 
--- what is known of n loads in t slots that were read
-pub record ValidLoads (n t : ℕ) (loads : List Settings) : Type 0 where
+-- what is known of n loads in t slots that were read, at ratio r
+pub record ValidLoads (n t r : ℕ) (loads : List Settings) : Type 0 where
   pub count : length loads ≡ n
-  pub keeps : Every (Every (SettingKept 1)) loads
+  pub keeps : Every (Every (SettingKept r)) loads
   pub labels : Every Labelled loads
   pub powers : Every (Every (λ v. length (v .powers) ≡ t)) loads
   pub small : Every (Every SettingSmall) loads
 
--- document 01's ranges
+-- document 01's ranges, and M-108's of the ratio
 pub record ValidBook (b : Problem) : Type 0 where
-  pub loads : ValidLoads (length (b .loads)) (length (b .limits)) (b .loads)
+  pub loads : ValidLoads (length (b .loads)) (length (b .limits)) (b .ratio) (b .loads)
   pub slots-some : 1 ≤ length (b .limits)
   pub slots-few : length (b .limits) ≤ mostSlots
   pub loads-some : 1 ≤ length (b .loads)
   pub loads-few : length (b .loads) ≤ mostLoads
   pub fine-some : 1 ≤ b .fineness
   pub fine-few : b .fineness ≤ mostFineness
+  pub ratio-some : 1 ≤ b .ratio
+  pub ratio-few : b .ratio ≤ mostRatio
   pub budget-small : b .budget < 2 ^ 32
   pub limits-small : Every (λ s. s < 65536) (b .limits)
 

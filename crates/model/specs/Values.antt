@@ -51,6 +51,7 @@ bookValue b =
       slots = length (b .limits);
       count = length (b .loads);
       fineness = b .fineness;
+      ratio = b .ratio;
       budget = b .budget;
       limits = map (λ s. getD (b .limits) s 0) (upto mostSlots);
       loads = map (λ k. loadValue (getD (b .loads) k [])) (upto mostLoads);
@@ -59,7 +60,7 @@ bookValue b =
 -- a book with nothing in it
 unfoldable pub freshBook : Book
 freshBook =
-    record { slots = 0; count = 0; fineness = 0; budget = 0; limits = replicate mostSlots 0; loads = replicate mostLoads (loadValue []) }
+    record { slots = 0; count = 0; fineness = 0; ratio = 0; budget = 0; limits = replicate mostSlots 0; loads = replicate mostLoads (loadValue []) }
 
 -- what the book reader answers: it writes no bytes and plans nothing; the book is a fresh one with a refusal
 abbrev pub readingOf : Result Problem → Reading
@@ -106,6 +107,7 @@ unfoldable pub problemOf : Book → Problem
 problemOf v =
     record {
       fineness = v .fineness;
+      ratio = v .ratio;
       budget = v .budget;
       limits = take (v .slots) (v .limits);
       loads = map (settingsIn (v .slots)) (take (v .count) (v .loads));

@@ -83,6 +83,7 @@ pub struct Book {
     pub slots: usize,
     pub count: usize,
     pub fineness: u64,
+    pub ratio: u64,
     pub budget: u64,
     pub limits: [u64; Book::SLOTS],
     pub loads: [Load; Book::LOADS],
@@ -114,8 +115,8 @@ impl Load {
 }
 
 impl Book {
-    // Document 01's upper bounds of T, N, d and o; each lower bound is 1. Then of the cells, and the bytes of the longest sheet; of a day's books (M-107),
-    // and the bytes of a day's longest output.
+    // Document 01's upper bounds of T, N, d and o, and M-108's of r; each lower bound is 1. Then of the cells, and the bytes of the longest sheet; of a day's
+    // books (M-107), and the bytes of a day's longest output.
     pub const SLOTS: usize = 4;
 
     pub const LOADS: usize = 24;
@@ -123,6 +124,8 @@ impl Book {
     pub const FINENESS: u64 = 64;
 
     pub const OPTIONS: usize = 3;
+
+    pub const RATIO: u64 = 3;
 
     pub const CELLS: usize = 1048576;
 
@@ -140,6 +143,7 @@ impl Book {
             slots: 0,
             count: 0,
             fineness: 0,
+            ratio: 0,
             budget: 0,
             limits: [0; Book::SLOTS],
             loads: [none; Book::LOADS],

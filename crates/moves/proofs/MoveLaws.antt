@@ -29,7 +29,7 @@ use Rattle.grid.specs.declared.Grid.{Grid}
 use Rattle.grid.specs.declared.SlotGrid.{SlotGrid}
 use Rattle.grid.specs.Geometry.{SlotIs, noSlot, entryAt}
 use Rattle.grid.proofs.ArrayLaws.{set-down}
-use Rattle.grid.proofs.ExtentLaws.{rows-some, columns-some, rows-fit, columns-fit, cells-fit, rows-more, columns-more}
+use Rattle.grid.proofs.GeometryLaws.{rows-some, columns-some, rows-fit, columns-fit, cells-fit, rows-more, columns-more}
 use Rattle.moves.specs.Moves.{ActivesAre, MoveIs, LoadHeld}
 
 -- digits that are at most m, in n places whose values multiply up to c

@@ -36,7 +36,7 @@ use Rattle.rows.specs.Row.{held, sourceOf, offerOf, LoadRoom}
 use Rattle.pass.specs.Pass.{countRows, LayerMade}
 use Rattle.rows.proofs.SourceLaws.{source-column, cond-same}
 use Rattle.pass.proofs.LayerLaws.{count-same, count-add, join-same}
-use Rattle.grid.proofs.ExtentLaws.{rows-some}
+use Rattle.grid.proofs.GeometryLaws.{rows-some}
 use Rattle.moves.specs.Moves.{movesOf, ActivesAre, MoveIs, LoadIs}
 use Rattle.search.specs.Search.{Modelled, LayerIs}
 

@@ -18,16 +18,16 @@ use Rattle.book.proofs.read_loads.Statement.{statement}
 use Rattle.book.proofs.read_loads.Tie as tie
 
 abbrev Inv-loop : tie.InvT-loop
-Inv-loop s slots count loads₀ at₀ k₀ loads at k = (at ≤ length s) × (k ≤ count) × (length loads ≡ mostLoads) × Read slots count s at k loads
+Inv-loop s slots ratio count loads₀ at₀ k₀ loads at k = (at ≤ length s) × (k ≤ count) × (length loads ≡ mostLoads) × Read slots ratio count s at k loads
 
 abbrev μ-loop : tie.MeasureT-loop
-μ-loop s slots count loads₀ at₀ k₀ loads at k = count - k
+μ-loop s slots ratio count loads₀ at₀ k₀ loads at k = count - k
 
 fresh-requires : tie.Need-fresh-requires Inv-loop μ-loop
 fresh-requires c κs = search needs
 
 loop-holds : tie.Need-loop-holds Inv-loop μ-loop
-loop-holds c = (omega arith, omega arith, refl, rw (c .fresh .ensures) (read-none _ _ _))
+loop-holds c = (omega arith, omega arith, refl, rw (c .fresh .ensures) (read-none _ _ _ _))
 
 sub-rest : tie.Need-sub-rest Inv-loop μ-loop
 sub-rest c = search needs
@@ -54,7 +54,7 @@ returns c =
     let n = c .before .before .line-length .result in
     let en : n ≡ lineLength (drop (l .at) (a .s .now)) = length-is (a .s .now) (l .at) n (l .inv .0) (c .before .before .line-length .ensures) in
     let e : c .no-loads .result ≡ loadsReading (refused Unterminated (l .k + 2)) = c .no-loads .ensures in
-    e ∙ ap loadsReading (sym (read-unterminated (a .slots) (a .count) (a .s .now) (l .at) (l .k) (l .loads) (l .inv .3) (omega arith) (rw length-drop (omega arith))))
+    e ∙ ap loadsReading (sym (read-unterminated (a .slots) (a .ratio) (a .count) (a .s .now) (l .at) (l .k) (l .loads) (l .inv .3) (omega arith) (rw length-drop (omega arith))))
 
 add-end : tie.Need-add-end Inv-loop μ-loop
 add-end c = search needs
@@ -88,13 +88,13 @@ line : (c : tie.After-load-finding Inv-loop μ-loop)
     (drop (c .before .before .before .before .before .before .loop .at) (c .before .before .before .before .before .before .before .before .before .args .s .now))
     ≡ lineOf (drop (c .before .before .before .before .before .before .loop .at) (c .before .before .before .before .before .before .before .before .before .args .s .now)))
     × (c .load-finding .result
-    ≡ first (loadRules (c .before .before .before .before .before .before .before .before .before .args .slots) (lineOf (drop (c .before .before .before .before .before .before .loop .at) (c .before .before .before .before .before .before .before .before .before .args .s .now)))))
+    ≡ first (loadRules (c .before .before .before .before .before .before .before .before .before .args .slots) (c .before .before .before .before .before .before .before .before .before .args .ratio) (lineOf (drop (c .before .before .before .before .before .before .loop .at) (c .before .before .before .before .before .before .before .before .before .args .s .now)))))
 line c =
     let a = c .before .before .before .before .before .before .before .before .before .args in
     let l = c .before .before .before .before .before .before .loop in
     let n = c .before .before .before .line-length .result in
     let en : n ≡ lineLength (drop (l .at) (a .s .now)) = length-is (a .s .now) (l .at) n (l .inv .0) (c .before .before .before .line-length .ensures) in
-    (rw length-drop (omega arith), line-is (a .s .now) (l .at) n en, c .load-finding .ensures ∙ ap (λ x. first (loadRules (a .slots) x)) (line-is (a .s .now) (l .at) n en))
+    (rw length-drop (omega arith), line-is (a .s .now) (l .at) n en, c .load-finding .ensures ∙ ap (λ x. first (loadRules (a .slots) (a .ratio) x)) (line-is (a .s .now) (l .at) n en))
 
 returns-2 : tie.Need-returns-2 Inv-loop μ-loop
 returns-2 c =
@@ -104,21 +104,21 @@ returns-2 c =
     let r = c .before .before .finding .given .0 .0 in
     let e : c .before .before .before .before .load-finding .result ≡ Refused r = c .before .before .finding .given .1 in
     let g : c .no-loads2 .result ≡ loadsReading (refused r (l .k + 2)) = c .no-loads2 .ensures in
-    g ∙ ap loadsReading (sym (read-refused (a .slots) (a .count) (a .s .now) (l .at) (l .k) (l .loads) (l .inv .3) r (omega arith) (f .0) (sym (f .2) ∙ e)))
+    g ∙ ap loadsReading (sym (read-refused (a .slots) (a .ratio) (a .count) (a .s .now) (l .at) (l .k) (l .loads) (l .inv .3) r (omega arith) (f .0) (sym (f .2) ∙ e)))
 
 enum-told : tie.Need-enum-told Inv-loop μ-loop
 enum-told c = search needs
 
 -- a line that is not refused
 passed : (c : tie.After-enum-told Inv-loop μ-loop)
-    → first (loadRules (c .before .before .before .before .before .before .before .before .before .before .before .args .slots) (lineOf (drop (c .before .before .before .before .before .before .before .before .loop .at) (c .before .before .before .before .before .before .before .before .before .before .before .args .s .now)))) ≡ Passed
+    → first (loadRules (c .before .before .before .before .before .before .before .before .before .before .before .args .slots) (c .before .before .before .before .before .before .before .before .before .before .before .args .ratio) (lineOf (drop (c .before .before .before .before .before .before .before .before .loop .at) (c .before .before .before .before .before .before .before .before .before .before .before .args .s .now)))) ≡ Passed
 passed c = sym (line (c .before .before) .2) ∙ c .enum-told .given .1
 
 number-requires : tie.Need-number-requires Inv-loop μ-loop
 number-requires c κs =
     let a = c .before .before .before .before .before .before .before .before .before .before .before in
     let l = c .before .before .before .before .before .before .before .before .loop in
-    let h = load-line (a .args .slots) (lineOf (drop (l .at) (a .args .s .now))) (a .pre .0) (passed c) in
+    let h = load-line (a .args .slots) (a .args .ratio) (lineOf (drop (l .at) (a .args .s .now))) (a .pre .0) (passed c) in
     rw (line (c .before .before) .1) (omega (arith, line-holds (a .args .slots) _ _ (lineOf (drop (l .at) (a .args .s .now))) h))
 
 load-of-requires : tie.Need-load-of-requires Inv-loop μ-loop
@@ -127,7 +127,7 @@ load-of-requires c κs =
     let l = c .before .before .before .before .before .before .before .before .before .loop in
     let w = line (c .before .before .before) in
     let e : c .number .result ≡ optionCount (lineOf (drop (l .at) (a .args .s .now))) = c .number .ensures ∙ ap optionCount (w .1) in
-    rw (w .1, e) (load-line (a .args .slots) (lineOf (drop (l .at) (a .args .s .now))) (a .pre .0) (passed (c .before)))
+    rw (w .1, e) (load-line (a .args .slots) (a .args .ratio) (lineOf (drop (l .at) (a .args .s .now))) (a .pre .0) (passed (c .before)))
 
 mul-loads : tie.Need-mul-loads Inv-loop μ-loop
 mul-loads c = search needs
@@ -156,7 +156,7 @@ loop-again c =
       omega (arith, length-drop (l .at) s, w .0),
       omega arith,
       simp length-set (l .inv .2),
-      read-more (a .args .slots) (a .args .count) s (l .at) (l .k) (l .loads) (l .inv .3) (l .at + n + 1) (c .load-of .result) (omega arith) (a .pre .1) (w .0)
+      read-more (a .args .slots) (a .args .ratio) (a .args .count) s (l .at) (l .k) (l .loads) (l .inv .3) (l .at + n + 1) (c .load-of .result) (omega arith) (a .pre .2) (w .0)
           (passed (c .before .before)) e (after-is s (l .at) n en),
     )
 
@@ -171,7 +171,7 @@ returns-3 c =
     let a = c .before .before .before .before .before .before .args in
     let l = c .before .before .before .loop in
     let e : c .no-loads3 .result ≡ loadsReading (refused TrailingBytes (l .k + 2)) = c .no-loads3 .ensures in
-    e ∙ ap loadsReading (sym (read-trailing (a .slots) (a .count) (a .s .now) (l .at) (l .k) (l .loads) (l .inv .3) (omega arith) (rw length-drop (omega arith))))
+    e ∙ ap loadsReading (sym (read-trailing (a .slots) (a .ratio) (a .count) (a .s .now) (l .at) (l .k) (l .loads) (l .inv .3) (omega arith) (rw length-drop (omega arith))))
 
 success-requires : tie.Need-success-requires Inv-loop μ-loop
 success-requires c κs = search needs
@@ -180,7 +180,7 @@ returns-4 : tie.Need-returns-4 Inv-loop μ-loop
 returns-4 c =
     let a = c .before .before .before .before .before .before .args in
     let l = c .before .before .before .loop in
-    rw (c .success .ensures, read-all (a .slots) (a .count) (a .s .now) (l .at) (l .k) (l .loads) (l .inv .3) (omega arith) (rw length-drop (omega arith)), l .inv .3 .stored)
+    rw (c .success .ensures, read-all (a .slots) (a .ratio) (a .count) (a .s .now) (l .at) (l .k) (l .loads) (l .inv .3) (omega arith) (rw length-drop (omega arith)), l .inv .3 .stored)
 
 pub read-loads-spec : {M : Type 1} → statement M
 read-loads-spec =

@@ -12,18 +12,18 @@ use Rattle.model.specs.Values.{problemOf}
 use Rattle.model.proofs.HeldLaws.{held-four, held-limit-small}
 use Rattle.grid.specs.declared.Grid.{Grid}
 use Rattle.grid.specs.Geometry.{SlotIs, noSlot}
-use Rattle.grid.proofs.SlotLaws.{slots-length, header-fits, slot-at, slot-sound, sizes-small, depth-less}
-use Rattle.grid.proofs.ExtentLaws.{back-one, GridFrom, grid-none, grid-more, grid-all, Small, products-small, cells-over}
+use Rattle.grid.proofs.SlotLaws.{slots-length, header-fits, ratio-fits, slot-at, slot-sound, sizes-small, depth-less}
+use Rattle.grid.proofs.GeometryLaws.{back-one, MadeFrom, grid-none, grid-more, grid-all, Small, products-small, cells-over}
 use Rattle.grid.proofs.grid_of.Statement.{statement}
 use Rattle.grid.proofs.grid_of.Tie as tie
 
 abbrev Inv-loop : tie.InvT-loop
-Inv-loop book slots limits steps₀ tops₀ widths₀ depths₀ rows₀ width₀ cells₀ origin₀ t₀ steps tops widths depths rows width cells origin t =
+Inv-loop book slots limits ratio steps₀ tops₀ widths₀ depths₀ rows₀ width₀ cells₀ origin₀ t₀ steps tops widths depths rows width cells origin t =
     (t ≤ slots) × (slots ≤ 4)
-    × GridFrom (slotsOf (problemOf book)) t (record { slots = slots; steps = steps; tops = tops; widths = widths; depths = depths; rows = rows; width = width; cells = cells; origin = origin })
+    × MadeFrom (slotsOf (problemOf book)) t (record { slots = slots; steps = steps; tops = tops; widths = widths; depths = depths; rows = rows; width = width; cells = cells; origin = origin })
 
 abbrev μ-loop : tie.MeasureT-loop
-μ-loop book slots limits steps₀ tops₀ widths₀ depths₀ rows₀ width₀ cells₀ origin₀ t₀ steps tops widths depths rows width cells origin t = t
+μ-loop book slots limits ratio steps₀ tops₀ widths₀ depths₀ rows₀ width₀ cells₀ origin₀ t₀ steps tops widths depths rows width cells origin t = t
 
 loop-holds : tie.Need-loop-holds Inv-loop μ-loop
 loop-holds c =
@@ -43,7 +43,7 @@ slot-of-requires : tie.Need-slot-of-requires Inv-loop μ-loop
 slot-of-requires c κs =
     let s = c .before .before .before .before in
     let t = c .before .before .loop .t - 1 in
-    (header-fits (s .args .book) (s .pre), (omega (arith, held-limit-small (s .args .book) (s .pre) t (omega arith)), omega arith, omega arith))
+    (header-fits (s .args .book) (s .pre), (omega (arith, held-limit-small (s .args .book) (s .pre) t (omega arith)), ratio-fits (s .args .book) (s .pre) .0, ratio-fits (s .args .book) (s .pre) .1))
 
 -- the geometry before slot t - 1
 abbrev before : tie.After-slot-of Inv-loop μ-loop → Grid
@@ -84,8 +84,8 @@ module _ (c : tie.After-slot-of Inv-loop μ-loop) where
       let l = c .before .before .before .loop in
       let slot = getD (slotsOf (problemOf (s .args .book))) (l .t - 1) noSlot in
       let sound = slot-sound (s .args .book) (s .pre) (l .t - 1) in-book in
-      let sizes = sizes-small slot (sound .limit-small) (sound .loads-few) (sound .ratio-few) in
-      products-small (slotsOf (problemOf (s .args .book))) (l .t) (before c) (c .slot-of .result) (l .inv .2) (leb-true _ _ (c .before .if1 .taken))
+      let sizes = sizes-small slot (sound .limit-small) (sound .loads-few) (sound .ratio-some) (sound .ratio-few) in
+      products-small (slotsOf (problemOf (s .args .book))) (l .t) (before c) (c .slot-of .result) (l .inv .2) (omega (arith, leb-true (l .cells) _ (c .before .if1 .taken)))
       (omega (arith, slot-is .top-is, sizes)) (omega (arith, slot-is .width-is, sizes)) deep
 
 mul-steps : tie.Need-mul-steps Inv-loop μ-loop
@@ -141,7 +141,7 @@ loop-again c =
       omega arith,
       l .inv .1,
       grid-more slots (l .t - 1) (omega (arith, slots-length (s .args .book) (s .pre))) (in-book c) (c .slot-of .result) (slot-is c) (deep c) (before c)
-          (back-one (λ t. GridFrom slots t (before c)) (l .t) (c .before .before .loop-test .taken) (l .inv .2)),
+          (back-one (λ t. MadeFrom slots t (before c)) (l .t) (c .before .before .loop-test .taken) (l .inv .2)),
     )
 
 returns : tie.Need-returns Inv-loop μ-loop
@@ -150,10 +150,7 @@ returns c =
     let s = c .before .before .before .before in
     let l = c .before .before .loop in
     let many : mostCells < l .cells = leb-false (l .cells) mostCells (c .if1 .left) in
-    record {
-      capped = record { exact = λ k. absurd (omega arith); over = λ k. cells-over (slotsOf (problemOf (s .args .book))) (l .t) _ (l .inv .2 .cells-are) k };
-      is = λ k. absurd (omega arith);
-    }
+    record { is = λ k. absurd (omega arith); over = λ k. cells-over (slotsOf (problemOf (s .args .book))) (l .t) _ (l .inv .2 .cells-are) k }
 
 returns-2 : tie.Need-returns-2 Inv-loop μ-loop
 unfolding cells
@@ -161,10 +158,9 @@ returns-2 c =
     let s = c .before .before .before in
     let l = c .before .loop in
     let slots = slotsOf (problemOf (s .args .book)) in
-    let is = grid-all slots (l .t) _ (omega arith) (sym (slots-length (s .args .book) (s .pre))) (omega (arith, slots-length (s .args .book) (s .pre))) (l .inv .2) in
     record {
-      capped = record { exact = λ k. is k .cells-are; over = λ k. cells-over slots (l .t) _ (l .inv .2 .cells-are) k };
-      is = is;
+      is = grid-all slots (l .t) _ (omega arith) (sym (slots-length (s .args .book) (s .pre))) (omega (arith, slots-length (s .args .book) (s .pre))) (l .inv .2);
+      over = λ k. cells-over slots (l .t) _ (l .inv .2 .cells-are) k;
     }
 
 pub grid-of-spec : {M : Type 1} → statement M

@@ -3,7 +3,9 @@ use Prim.Native.Nat.{_+_, _*_, _-_, _/_, _≤_}
 use mathlib.Core.Path.{ap}
 use native.Mathlib.Omega.{arith}
 use borrow.Author.Needs.{needs}
-use Rattle.grid.proofs.SlotLaws.{parts-small}
+use Rattle.model.specs.Grid.{Slot}
+use Rattle.model.specs.Trials.{gridTop, widthOf}
+use Rattle.grid.proofs.SlotLaws.{parts-small, sizes-small}
 use Rattle.grid.proofs.slot_of.Statement.{statement}
 use Rattle.grid.proofs.slot_of.Tie as tie
 
@@ -13,15 +15,16 @@ step-of-requires c κs = c .pre .0
 div-most : tie.Need-div-most
 div-most c = search needs
 
--- R, r × R and r × N
-small : (c : tie.After-step-of)
-    → (c .before .args .limit / c .step-of .result ≤ 65535)
-    × (c .before .args .ratio * (c .before .args .limit / c .step-of .result) ≤ 196605)
-    × (c .before .args .ratio * c .before .args .loads ≤ 72)
-    × ((2 * c .before .args .ratio - 1) * c .before .args .loads ≤ 144)
+-- the slot, as far as its numbers go
+abbrev slot : tie.After-step-of → Slot
+slot c = let a = c .before .args in record { place = 0; limit = a .limit; step = c .step-of .result; loads = a .loads; ratio = a .ratio }
+
+-- R, r × R and r × N, and the number of values of b
+small : (c : tie.After-step-of) → (gridTop (slot c) ≤ 65535) × (slot c .ratio * gridTop (slot c) ≤ 196605) × (slot c .ratio * slot c .loads ≤ 72) × (widthOf (slot c) ≤ 393355)
 small c =
-    let a = c .before .args in
-    parts-small (record { place = 0; limit = a .limit; step = c .step-of .result; loads = a .loads; ratio = a .ratio }) (c .before .pre .1 .0) (c .before .pre .0 .1) (c .before .pre .1 .2)
+    let p = c .before .pre in
+    let parts = parts-small (slot c) (p .1 .0) (p .0 .1) (p .1 .1) (p .1 .2) in
+    (parts .0, parts .1, parts .2, sizes-small (slot c) (p .1 .0) (p .0 .1) (p .1 .1) (p .1 .2) .1)
 
 add-top : tie.Need-add-top
 add-top c = omega (arith, small c)

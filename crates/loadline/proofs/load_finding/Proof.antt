@@ -21,14 +21,14 @@ all-digits-requires : tie.Need-all-digits-requires
 all-digits-requires c κs = search needs
 
 -- the rules from number k on decide
-abbrev Left : ℕ → List ℕ → ℕ → Type 0
-Left t line k = first (loadRules t line) ≡ first (drop k (loadRules t line))
+abbrev Left : ℕ → ℕ → List ℕ → ℕ → Type 0
+Left t r line k = first (loadRules t r line) ≡ first (drop k (loadRules t r line))
 
 returns : tie.Need-returns
 unfolding loadRules
 returns c = sym (first-here NotHex _ _ (ap not (sym (c .before .all-digits .ensures)) ∙ c .if1 .taken))
 
-hex : (c : tie.Else1) → Left (c .before .before .before .args .slots) (c .before .before .before .args .line .now) 1
+hex : (c : tie.Else1) → Left (c .before .before .before .args .slots) (c .before .before .before .args .ratio) (c .before .before .before .args .line .now) 1
 unfolding loadRules
 hex c = first-next NotHex _ _ (ap not (sym (c .before .all-digits .ensures)) ∙ c .if1 .left)
 
@@ -42,7 +42,7 @@ returns-2 : tie.Need-returns-2
 unfolding loadRules
 returns-2 c = sym (hex (c .before .before .before) ∙ first-here WrongKind _ _ (sym (c .before .wrong-kind .ensures) ∙ c .if2 .taken))
 
-kind : (c : tie.Else2) → Left (c .before .before .before .before .before .before .args .slots) (c .before .before .before .before .before .before .args .line .now) 2
+kind : (c : tie.Else2) → Left (c .before .before .before .before .before .before .args .slots) (c .before .before .before .before .before .before .args .ratio) (c .before .before .before .before .before .before .args .line .now) 2
 unfolding loadRules
 kind c = hex (c .before .before .before) ∙ first-next WrongKind _ _ (sym (c .before .wrong-kind .ensures) ∙ c .if2 .left)
 
@@ -64,7 +64,7 @@ few : (c : tie.Else3) → not (within 1 3 (optionCount (c .before .before .befor
 few c = ranged _ _ 1 3 _ (c .before .before .number .ensures) (c .before .outside .ensures) ∙ c .if3 .left
 
 count : (c : tie.Else3)
-    → Left (c .before .before .before .before .before .before .before .before .before .args .slots) (c .before .before .before .before .before .before .before .before .before .args .line .now) 3
+    → Left (c .before .before .before .before .before .before .before .before .before .args .slots) (c .before .before .before .before .before .before .before .before .before .args .ratio) (c .before .before .before .before .before .before .before .before .before .args .line .now) 3
 unfolding loadRules
 count c = kind (c .before .before .before) ∙ first-next SlotsOrOptionsOutOfRange _ _ (few c)
 
@@ -77,7 +77,7 @@ option-start-requires : tie.Need-option-start-requires
 option-start-requires c κs =
     let s = c .before .before .before .before .before .before .before .before .before .before in
     let l = s .args .line .now in
-    (s .pre, omega (arith, c .standing-pairs .ensures, pairs-most (s .args .slots) l), omega (arith, in-range 1 3 (optionCount l) (few (c .before))))
+    (s .pre .0, omega (arith, c .standing-pairs .ensures, pairs-most (s .args .slots) l), omega (arith, in-range 1 3 (optionCount l) (few (c .before))))
 
 -- the length that is due
 abbrev dueFor : ℕ → List ℕ → ℕ
@@ -92,21 +92,25 @@ returns-4 c =
     let a = c .before .before .before .before .before .before .before .before .before .before .before .before .args in
     sym (count (c .before .before .before) ∙ first-here WrongLength _ _ (ap not (ne-eqb (length (a .line .now)) (dueFor (a .slots) (a .line .now)) (λ e. c .if4 .taken (e ∙ sym (due (c .before)))))))
 
-digits : (c : tie.Else4) → Left (c .before .before .before .before .before .before .before .before .before .before .before .before .args .slots) (c .before .before .before .before .before .before .before .before .before .before .before .before .args .line .now) 4
+digits : (c : tie.Else4) → Left (c .before .before .before .before .before .before .before .before .before .before .before .before .args .slots) (c .before .before .before .before .before .before .before .before .before .before .before .before .args .ratio) (c .before .before .before .before .before .before .before .before .before .before .before .before .args .line .now) 4
 unfolding loadRules
 digits c = count (c .before .before .before) ∙ first-next WrongLength _ _ (ap not (eq-eqb _ _ (c .if4 .left ∙ due (c .before))))
 
 some-exceeds-requires : tie.Need-some-exceeds-requires
 some-exceeds-requires c κs =
-    let a = c .before .before .before .before .before .before .before .before .before .before .before .before .args in
-    record {
-      slots = c .before .before .before .before .before .before .before .before .before .before .before .before .pre;
-      carried = c .before .before .standing-pairs .ensures;
-      some = rw (c .before .before .before .before .before .number .ensures) (in-range 1 3 (optionCount (a .line .now)) (few (c .before .before .before)) .0);
-      options = rw (c .before .before .before .before .before .number .ensures) (in-range 1 3 (optionCount (a .line .now)) (few (c .before .before .before)) .1);
-      stated = c .before .before .before .before .before .number .ensures;
-      long = c .if4 .left ∙ c .before .option-start .ensures;
-    }
+    let s = c .before .before .before .before .before .before .before .before .before .before .before .before in
+    let n = c .before .before .before .before .before .number in
+    let o = in-range 1 3 (optionCount (s .args .line .now)) (few (c .before .before .before)) in (
+      record {
+        slots = s .pre .0;
+        carried = c .before .before .standing-pairs .ensures;
+        some = rw (n .ensures) (o .0);
+        options = rw (n .ensures) (o .1);
+        stated = n .ensures;
+        long = c .if4 .left ∙ c .before .option-start .ensures;
+      },
+      s .pre .1,
+    )
 
 returns-5 : tie.Need-returns-5
 unfolding loadRules

@@ -21,16 +21,16 @@ abbrev power : List ℕ → ℕ → ℕ → ℕ → Power
 power line slots c s = powerIn s (setting line slots c)
 
 abbrev Inv-loop : tie.InvT-loop
-Inv-loop line slots pairs count found₀ last c s₀ found s = (s ≤ slots) × (found ≡ false) × (any reactiveExceeds (map (power line slots c) (upto s)) ≡ false)
+Inv-loop line slots ratio pairs count found₀ last c s₀ found s = (s ≤ slots) × (found ≡ false) × (any (reactiveExceeds ratio) (map (power line slots c) (upto s)) ≡ false)
 
 abbrev μ-loop : tie.MeasureT-loop
-μ-loop line slots pairs count found₀ last c s₀ found s = slots - s
+μ-loop line slots ratio pairs count found₀ last c s₀ found s = slots - s
 
 abbrev Inv-settings : tie.InvT-settings
-Inv-settings line slots pairs count found₀ last c₀ found c = (c ≤ last) × (found ≡ false) × (any (exceedsIn slots) (map (setting line slots) (upto c)) ≡ false)
+Inv-settings line slots ratio pairs count found₀ last c₀ found c = (c ≤ last) × (found ≡ false) × (any (exceedsIn ratio slots) (map (setting line slots) (upto c)) ≡ false)
 
 abbrev μ-settings : tie.MeasureT-settings
-μ-settings line slots pairs count found₀ last c₀ found c = last - c
+μ-settings line slots ratio pairs count found₀ last c₀ found c = last - c
 
 add-settings : tie.Need-add-settings Inv-loop μ-loop Inv-settings μ-settings
 add-settings c = search needs
@@ -55,7 +55,7 @@ loop-again c =
     let a = c .before .before .before .before .before .before .before .args in
     let l = c .before .before .before .loop in
     let k = c .before .before .before .before .before .settings .c in
-    (search needs, l .inv .1, any-more (power (a .line .now) (a .slots) k) reactiveExceeds (l .s) (l .inv .2) (sym (c .before .exceeds-at .ensures) ∙ c .if1 .left))
+    (search needs, l .inv .1, any-more (power (a .line .now) (a .slots) k) (reactiveExceeds (a .ratio)) (l .s) (l .inv .2) (sym (c .before .exceeds-at .ensures) ∙ c .if1 .left))
 
 add-c : tie.Need-add-c Inv-loop μ-loop Inv-settings μ-settings
 add-c c = search needs
@@ -70,28 +70,28 @@ settings-again c =
     let e : c .before .loop .s ≡ a .slots = omega arith in (
       search needs,
       c .before .loop .inv .1,
-      any-more (setting (a .line .now) (a .slots)) (exceedsIn (a .slots)) (o .c) (o .inv .2)
-          (ap (λ n. any reactiveExceeds (map (power (a .line .now) (a .slots) (o .c)) (upto n))) (sym e) ∙ c .before .loop .inv .2),
+      any-more (setting (a .line .now) (a .slots)) (exceedsIn (a .ratio) (a .slots)) (o .c) (o .inv .2)
+          (ap (λ n. any (reactiveExceeds (a .ratio)) (map (power (a .line .now) (a .slots) (o .c)) (upto n))) (sym e) ∙ c .before .loop .inv .2),
     )
 
 returns : tie.Need-returns Inv-loop μ-loop Inv-settings μ-settings
 returns c =
     let a = c .before .before .before .args in
-    let h = c .before .before .before .pre in
+    let h = c .before .before .before .pre .0 in
     let e : c .before .settings .c ≡ optionCount (a .line .now) + 1 = omega arith in
     c .before .settings .inv .1
     ∙ sym (c .before .settings .inv .2)
-    ∙ ap (λ n. any (exceedsIn (a .slots)) (map (setting (a .line .now) (a .slots)) (upto n))) e
-    ∙ sym (exceeds-is (a .slots) (a .line .now))
+    ∙ ap (λ n. any (exceedsIn (a .ratio) (a .slots)) (map (setting (a .line .now) (a .slots)) (upto n))) e
+    ∙ sym (exceeds-is (a .ratio) (a .slots) (a .line .now))
 
 returns-2 : tie.Need-returns-2 Inv-loop μ-loop Inv-settings μ-settings
 returns-2 c =
     let a = c .before .before .before .before .before .before .before .args in
-    let h = c .before .before .before .before .before .before .before .pre in
+    let h = c .before .before .before .before .before .before .before .pre .0 in
     let k = c .before .before .before .before .before .settings .c in
-    sym (exceeds-is (a .slots) (a .line .now)
-    ∙ any-here (setting (a .line .now) (a .slots)) (exceedsIn (a .slots)) (optionCount (a .line .now) + 1) k (omega arith)
-    (any-here (power (a .line .now) (a .slots) k) reactiveExceeds (a .slots) (c .before .before .before .loop .s) (c .before .before .loop-test .taken) (sym (c .before .exceeds-at .ensures) ∙ c .if1 .taken)))
+    sym (exceeds-is (a .ratio) (a .slots) (a .line .now)
+    ∙ any-here (setting (a .line .now) (a .slots)) (exceedsIn (a .ratio) (a .slots)) (optionCount (a .line .now) + 1) k (omega arith)
+    (any-here (power (a .line .now) (a .slots) k) (reactiveExceeds (a .ratio)) (a .slots) (c .before .before .before .loop .s) (c .before .before .loop-test .taken) (sym (c .before .exceeds-at .ensures) ∙ c .if1 .taken)))
 
 pub some-exceeds-spec : {M : Type 1} → statement M
 some-exceeds-spec =

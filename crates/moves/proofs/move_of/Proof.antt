@@ -11,7 +11,7 @@ use Rattle.model.specs.Trials.{cellCount}
 use Rattle.model.specs.Values.{raised}
 use Rattle.grid.specs.declared.Grid.{Grid}
 use Rattle.grid.specs.Geometry.{Laid}
-use Rattle.grid.proofs.ExtentLaws.{back-one}
+use Rattle.grid.proofs.GeometryLaws.{back-one}
 use Rattle.moves.specs.Moves.{LoadHeld}
 use Rattle.moves.proofs.MoveLaws.{Moved, moved-none, moved-more, moved-all, back-fits, up-fits, down-fits, load-few, load-setting, load-q-small, digits-at}
 use Rattle.moves.proofs.move_of.Statement.{statement}

@@ -8,6 +8,7 @@ use Rattle.model.specs.Calls.{sizeRules, planSheet, freeFor}
 use Rattle.model.specs.Values.{problemOf}
 use Rattle.model.proofs.AnswerLaws.{writes-same}
 use borrow.Author.Needs.{needs}
+use Rattle.grid.proofs.SlotLaws.{cells-capped}
 use Rattle.fits.proofs.SizeLaws.{fits-words, fits-room, fits-few}
 use Rattle.planner.proofs.CallLaws.{size-refused}
 use Rattle.planner.proofs.plan_book.Statement.{statement}
@@ -17,7 +18,7 @@ grid-of-requires : tie.Need-grid-of-requires
 grid-of-requires c κs = search needs
 
 size-finding-requires : tie.Need-size-finding-requires
-size-finding-requires c κs = (c .before .before .before .pre, c .grid-of .ensures .capped)
+size-finding-requires c κs = (c .before .before .before .pre, cells-capped _ _ (c .grid-of .ensures))
 
 -- the book that has none of refusals 9 to 11
 passed : (c : tie.After-size-finding) → c .size-finding .result ≡ Passed
@@ -43,7 +44,7 @@ plan-for-requires : tie.Need-plan-for-requires
 plan-for-requires c κs =
     let p = passed (c .before .before .before .before) (c .before .before .enum-told .given .1) in
     let g = c .before .before .before .before .before .grid-of .ensures in
-    (c .before .before .before .before .before .before .before .before .pre, (g .is (fits-few _ _ _ p _ (g .capped)), (fits-words _ _ _ p, fits-room _ _ _ p)))
+    (c .before .before .before .before .before .before .before .before .pre, (g .is (fits-few _ _ _ p _ (cells-capped _ _ g)), (fits-words _ _ _ p, fits-room _ _ _ p)))
 
 same-length : tie.Need-same-length
 same-length c = search needs

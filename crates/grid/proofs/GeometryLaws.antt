@@ -76,7 +76,7 @@ module _ (slots : List Slot) (t : ℕ) (l : t < length slots) (x : SlotGrid) (is
 
 -- ---- the geometry as it is made, from slot t on
 
-pub record GridFrom (slots : List Slot) (t : ℕ) (v : Grid) : Type 0 where
+pub record MadeFrom (slots : List Slot) (t : ℕ) (v : Grid) : Type 0 where
   pub steps-length : length (v .steps) ≡ 4
   pub tops-length : length (v .tops) ≡ 4
   pub widths-length : length (v .widths) ≡ 4
@@ -89,7 +89,7 @@ pub record GridFrom (slots : List Slot) (t : ℕ) (v : Grid) : Type 0 where
   pub below : v .origin < v .width
 
 pub grid-none : (slots : List Slot) (n : ℕ) (steps tops widths depths : List ℕ) → n ≡ length slots → length steps ≡ 4 → length tops ≡ 4 → length widths ≡ 4 → length depths ≡ 4
-    → GridFrom slots n (record { slots = n; steps = steps; tops = tops; widths = widths; depths = depths; rows = 1; width = 1; cells = 1; origin = 0 })
+    → MadeFrom slots n (record { slots = n; steps = steps; tops = tops; widths = widths; depths = depths; rows = 1; width = 1; cells = 1; origin = 0 })
 grid-none slots n steps tops widths depths e a b c d =
     let none : drop n slots ≡ [] = drop-of-length-le slots {i = n} (omega arith) in
     record {
@@ -121,13 +121,13 @@ gridWith v t x =
     }
 
 module _ (slots : List Slot) (t : ℕ) (few : length slots ≤ 4) (l : t < length slots) (x : SlotGrid) (is : SlotIs (getD slots t noSlot) x)
-    (deep : x .depth < x .width) (v : Grid) (g : GridFrom slots (suc t) v) where
+    (deep : x .depth < x .width) (v : Grid) (g : MadeFrom slots (suc t) v) where
   -- an array with slot t's entry
   entries : (f : Slot → ℕ) (xs : List ℕ) (y : ℕ) → length xs ≡ 4 → y ≡ f (getD slots t noSlot)
       → ((i : ℕ) → suc t ≤ i → i < length slots → getD xs i 0 ≡ f (getD slots i noSlot)) → (i : ℕ) → t ≤ i → i < length slots → getD (set xs t y) i 0 ≡ f (getD slots i noSlot)
   entries f xs y four e h = set-down (λ i z. z ≡ f (getD slots i noSlot)) xs t (length slots) y 0 (omega arith) e h
 
-  pub grid-more : GridFrom slots t (gridWith v t x)
+  pub grid-more : MadeFrom slots t (gridWith v t x)
   grid-more =
       record {
         steps-length = length-set (v .steps) t (x .step) ∙ g .steps-length;
@@ -155,7 +155,7 @@ pub record Small (v : Grid) (x : SlotGrid) : Type 0 where
   pub cells : v .cells * (x .top * x .width) ≤ 27031149771489280
   pub origin : v .origin * x .width + x .depth ≤ 412462612480
 
-pub products-small : (slots : List Slot) (t : ℕ) (v : Grid) (x : SlotGrid) → GridFrom slots t v → v .cells ≤ mostCells
+pub products-small : (slots : List Slot) (t : ℕ) (v : Grid) (x : SlotGrid) → MadeFrom slots t v → v .cells ≤ mostCells
     → x .top ≤ 65536 → x .width ≤ 393355 → x .depth < x .width → Small v x
 products-small slots t v x g fits a b deep =
     let inside : cellCount (drop t slots) ≤ mostCells = omega (arith, g .cells-are) in
@@ -172,9 +172,9 @@ products-small slots t v x g fits a b deep =
     }
 
 -- all slots
-pub grid-all : (slots : List Slot) (t : ℕ) (v : Grid) → t ≡ 0 → v .slots ≡ length slots → length slots ≤ 4 → GridFrom slots t v → v .cells ≤ mostCells → GridIs slots v
+pub grid-all : (slots : List Slot) (t : ℕ) (v : Grid) → t ≡ 0 → v .slots ≡ length slots → length slots ≤ 4 → MadeFrom slots t v → v .cells ≤ mostCells → GridIs slots v
 grid-all slots t v none e few from fits =
-    let g : GridFrom slots 0 v = subst (λ n. GridFrom slots n v) none from in
+    let g : MadeFrom slots 0 v = subst (λ n. MadeFrom slots n v) none from in
     record {
       slots-are = e;
       slots-fit = few;
