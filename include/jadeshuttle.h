@@ -16,10 +16,18 @@
  * limits mean for a relay, how large a work area a book needs, what a price is,
  * which loads to name for an order, what each party learns from its view, which
  * loads draw while standing or must run, what can be done where a book has no plan,
- * and how a day's books are handed over and their output is read back.
+ * how a day's books are handed over and their output is read back, and which motors
+ * need a ratio above 1.
  *
- * THE BOOK  A header line of kind 01, then a line for each load: of kind 02, of kind
- * 06 for a load that draws while it stands, or of kind 07 for a load that must run.
+ * THE BOOK  A header line of kind 01, or of kind 08 where it states a ratio r; then a
+ * line for each load: of kind 02, of kind 06 for a load that draws while it stands, or
+ * of kind 07 for a load that must run.
+ *
+ * An 01 header has 16 + 4T digits: the kind, T, N and d (2 each), the budget (8) and
+ * the limits S of the slots (4 each). An 08 header has 18 + 4T: two more for r, from 1
+ * to 3, between d and the budget. An 01 header means r = 1. Every level has
+ * |Q| <= r x P in every slot, and so has standing.
+ *
  * A 06 line has, after its number of levels, a P and a Q for each slot, its standing
  * pairs, and then the levels: in all 4 + 8T + o x (4 + 8T) digits, 8T more than a 02
  * or a 07 line. Every sum of P and Q counts the standing pair of a load that stands;
@@ -27,6 +35,10 @@
  * its level and its worth are 0. A 07 line is laid out as a 02 line, but its load
  * never stands: every choice gives it one of its levels, 1 to o, and its factor in
  * the trials is o, not o + 1.
+ *
+ * CELLS  A slot with limit S has (R + 1) x (2rR + (2r - 1)N + 1) grid pairs, where R is
+ * S div L and L is S div (N x d), but at least 1. Cells is the product over the slots.
+ * Beside them r decides only refusals 6 and 7: no sheet depends on it.
  *
  * LINKING  Name target/staticlib/libjadeshuttle.a after your own files. It calls
  * memcpy and memset of the C library, and nothing else.
@@ -70,7 +82,7 @@
  * `order`, `view`, and `out`. What is only read may be shared.
  *
  * STACK, HEAP  Nothing is allocated. Stack used by a call, as measured on x86-64
- * Linux: planner up to 77 KiB, day up to 82 KiB, as its output waits there until it is
+ * Linux: planner up to 79 KiB, day up to 84 KiB, as its output waits there until it is
  * known to fit, quick planner up to 57 KiB, sheet reader, charge, order and views up
  * to 35 KiB. Leave 128 KiB of stack for a call.
  *
@@ -87,7 +99,7 @@ extern "C" {
 #endif
 
 /* Bounds. Buffers of these sizes are large enough for every book and every day. */
-#define JADESHUTTLE_BOOK_MAX 3513     /* bytes of the longest book: T = 4, N = 24, kind 06, three levels each */
+#define JADESHUTTLE_BOOK_MAX 3515     /* bytes of the longest book: header 08, T = 4, N = 24, lines 06 of three levels */
 #define JADESHUTTLE_SHEET_MAX 159     /* bytes of the longest sheet: 19 + 2N + 23T for N = 24, T = 4 */
 #define JADESHUTTLE_ORDER_MAX 24      /* bytes of the longest order: N = 24 */
 #define JADESHUTTLE_VIEW_MAX 107      /* bytes of the longest view: the mill's, 11 + 4N for N = 24 */
@@ -112,8 +124,8 @@ enum jadeshuttle_number {
     JADESHUTTLE_WRONG_KIND = 3,                     /* stray: fewer than 4 digits, or kind not one that is due */
     JADESHUTTLE_SLOTS_OR_OPTIONS_OUT_OF_RANGE = 4,  /* crowded: T not 1 to 4; o not 1 to 3 */
     JADESHUTTLE_WRONG_LENGTH = 5,                   /* misshapen: number of digits not the stated one */
-    JADESHUTTLE_LOADS_OR_FINENESS_OUT_OF_RANGE = 6, /* beyond: N not 1 to 24, or d not 1 to 64; line 1 */
-    JADESHUTTLE_REACTIVE_EXCEEDS_ACTIVE = 7,        /* slack: |Q| > P in some slot of an option or of standing */
+    JADESHUTTLE_LOADS_OR_FINENESS_OUT_OF_RANGE = 6, /* beyond: N not 1 to 24, d not 1 to 64, or r not 1 to 3; line 1 */
+    JADESHUTTLE_REACTIVE_EXCEEDS_ACTIVE = 7,        /* slack: |Q| > r x P in some slot of an option or of standing */
     JADESHUTTLE_TRAILING_BYTES = 8,                 /* trailing: bytes remain after the last load line; line N + 2 */
     /* The planner only. */
     JADESHUTTLE_TOO_MANY_CELLS = 9,  /* oversize: cells over 1,048,576 */
@@ -185,7 +197,8 @@ typedef struct jadeshuttle_order_answer {
  * the loads that must run, at level 1, keep the limits with all others standing, 17
  * is not given; in a book with 02 lines only, that is always so.
  *
- * Of every sheet it gives, with P and Q the true sums in a slot and S its limit:
+ * Of every sheet it gives, for each r, with P and Q the true sums in a slot and S its
+ * limit:
  *   - no choice that keeps P*P + Q*Q <= S*S in every slot is worth more;
  *   - 4*d*d * (P*P + Q*Q) <= (2*d+3)*(2*d+3) * S*S in every slot, so that the
  *     apparent power is at most (1 + 3/(2*d)) * S;
@@ -209,10 +222,10 @@ jadeshuttle_answer jadeshuttle_plan(const uint8_t *book, size_t book_len,
  * standing. Then it takes level 1 of a load or leaves it so: smallest P*P + Q*Q of
  * level 1 (summed over the slots) first, each load once. Level 1 replaces the
  * standing pair; a load that must run stays at level 1. A load once passed over is
- * never tried again, even where it would fit later, once another has left its
- * standing pair. The sheet keeps P*P + Q*Q <= S*S in every slot, whatever d is, but
- * may be worth far less than the plan. It needs no work area and has no bound on
- * cells or trials.
+ * never tried again, even where it would fit later: once another has left its
+ * standing pair or, with r above 1, once one runs whose Q offsets that of the others.
+ * The sheet keeps P*P + Q*Q <= S*S in every slot, whatever d is, but may be worth far
+ * less than the plan. It needs no work area and has no bound on cells or trials.
  *
  * Gives 1 to 8, 11, and then 17 where the true sums of its start break a limit, even
  * where another level, or running some load, would draw less. So it can give 17 where

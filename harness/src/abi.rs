@@ -257,8 +257,8 @@ pub fn sizes(model: &Source) -> Parsed<[(&'static str, u64); 8]> {
         found.ok_or_else(|| format!("{}: no Book::{name}", model.path))
     };
     let slots = bound("SLOTS")?;
-    let header = 16 + 4 * slots + 1;
-    // A line with the pairs for standing, which is the longer kind.
+    // A header with a ratio, and load lines with the pairs for standing: the longer kinds.
+    let header = 18 + 4 * slots + 1;
     let load = 4 + 8 * slots + bound("OPTIONS")? * (4 + 8 * slots) + 1;
     let (mill_view, supply_view) = (11 + 4 * bound("LOADS")?, 23 * slots);
     Ok([

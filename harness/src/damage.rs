@@ -1,12 +1,15 @@
 //! Books damaged on purpose: faults aimed at one refusal each, and blind changes of bytes and lines.
 
+use crate::draw::{self, ratios};
 use crate::random::Random;
+use crate::reference::book::number;
+use crate::reference::ratio;
 
 /// A fault aimed at the given refusal of 1 to 8. What a damaged book is refused for in the end, the reference says.
 pub fn fault(random: &mut Random, text: &mut Vec<u8>, refusal: usize) {
     match refusal {
         1 => unterminated(random, text),
-        6 => loads_or_fineness_out_of_range(random, text),
+        6 => header_out_of_range(random, text),
         8 => text.extend_from_slice(random.pick(&[
             b"\n" as &[u8],
             b"0",
@@ -17,7 +20,13 @@ pub fn fault(random: &mut Random, text: &mut Vec<u8>, refusal: usize) {
             b"\n\n",
             b"\xFF\n",
         ])),
-        _ => damage_line(random, text, refusal),
+        _ => {
+            let count = lines(text).len();
+            if count > 0 {
+                let n = random.below(count);
+                fault_at(random, text, refusal, n);
+            }
+        }
     }
 }
 
@@ -31,9 +40,18 @@ fn unterminated(random: &mut Random, text: &mut Vec<u8>) {
     text.truncate(left);
 }
 
-/// An N or a d outside its range (beyond).
-fn loads_or_fineness_out_of_range(random: &mut Random, text: &mut [u8]) {
-    let (at, digits) = random.pick(&[(4, b"00"), (4, b"19"), (4, b"FF"), (6, b"00"), (6, b"41"), (6, b"FF")]);
+/// Digits of a header, and where they are put.
+type Field = (usize, &'static [u8; 2]);
+
+/// An N or a d outside its range, or an r where the header states one (beyond).
+fn header_out_of_range(random: &mut Random, text: &mut [u8]) {
+    let of_every_header: [Field; 6] = [(4, b"00"), (4, b"19"), (4, b"FF"), (6, b"00"), (6, b"41"), (6, b"FF")];
+    let of_ratio: [Field; 3] = [(8, b"00"), (8, b"04"), (8, b"FF")];
+    let mut faults = of_every_header.to_vec();
+    if ratio::stated_in(text) {
+        faults.extend(of_ratio);
+    }
+    let (at, digits) = random.pick(&faults);
     put(text, at, digits);
 }
 
@@ -43,22 +61,18 @@ fn put(text: &mut [u8], at: usize, digits: &[u8]) {
     }
 }
 
-/// Refusals 2, 3, 4, 5 and 7, on some line.
-fn damage_line(random: &mut Random, text: &mut Vec<u8>, refusal: usize) {
-    let slots = slots(text);
+/// Refusals 2, 3, 4, 5 and 7, on line `n`, counted from 0.
+pub fn fault_at(random: &mut Random, text: &mut Vec<u8>, refusal: usize, n: usize) {
+    let (slots, r) = (slots(text), ratio_of(text));
     let mut lines = lines(text);
-    if lines.is_empty() {
-        return;
-    }
-    let n = random.below(lines.len());
     let line = &mut lines[n];
     match refusal {
         2 => not_hex(random, line),
-        3 if n == 0 => wrong_kind(random, line, &[b"01"]),
+        3 if n == 0 => wrong_kind(random, line, &[b"01", b"08"]),
         3 => wrong_kind(random, line, &[b"02", b"06", b"07"]),
         4 => put(line, 2, random.pick(&[b"00", b"04", b"05", b"80", b"FF"])),
         5 => wrong_length(random, line, slots),
-        _ => reactive_exceeds_active(random, line, slots),
+        _ => reactive_exceeds_active(random, line, slots, r),
     }
     *text = lines.concat();
 }
@@ -66,6 +80,13 @@ fn damage_line(random: &mut Random, text: &mut Vec<u8>, refusal: usize) {
 /// The number of slots that the header states.
 fn slots(text: &[u8]) -> usize {
     text.get(3).map_or(0, |digit| digit.wrapping_sub(b'0')) as usize
+}
+
+/// The ratio that the header states; 1 where it states none, or one outside its range.
+fn ratio_of(text: &[u8]) -> i64 {
+    let stated = text.get(8..10).filter(|_| ratio::stated_in(text));
+    let r = stated.and_then(number).map(|r| r as i64);
+    ratio::of(r.filter(|r| ratio::RANGE.contains(r)))
 }
 
 /// The lines, each with its LF.
@@ -100,16 +121,23 @@ fn wrong_kind(random: &mut Random, line: &mut Vec<u8>, due: &[&[u8; 2]]) {
     }
 }
 
-/// Digits too many or too few, also those of the pairs for standing, another number of slots or options, or a kind of load line
-/// of another length (misshapen).
+/// Digits too many or too few, also those of the ratio or of the pairs for standing, another number of slots or options, or a kind
+/// of header or load line of another length (misshapen).
 fn wrong_length(random: &mut Random, line: &mut Vec<u8>, slots: usize) {
     let (at, pairs) = (line.len() - 1, 8 * slots);
     match random.below(4) {
         0 => put(line, 2, random.pick(&[b"01", b"02", b"03", b"04"])),
         1 => drop(line.splice(at..at, vec![b'0'; random.pick(&[1, 2, 4, 8, 12, pairs])])),
         2 => drop(line.drain(at.saturating_sub(random.pick(&[1, 2, 4, 8, pairs]))..at)),
-        _ if draws_standing(line) => put(line, 0, random.pick(&[b"02", b"07"])),
-        _ => put(line, 0, b"06"),
+        _ => {
+            let kinds: &[&[u8]] = match &line[..2.min(at)] {
+                b"01" => &[b"08"],
+                b"08" => &[b"01"],
+                b"06" => &[b"02", b"07"],
+                _ => &[b"06"],
+            };
+            put(line, 0, random.pick(kinds));
+        }
     }
 }
 
@@ -117,8 +145,8 @@ fn draws_standing(line: &[u8]) -> bool {
     line.starts_with(b"06")
 }
 
-/// A |Q| above P in one slot of a load line, in an option or standing (slack).
-fn reactive_exceeds_active(random: &mut Random, line: &mut [u8], slots: usize) {
+/// A |Q| above r × P in one slot of a load line, in an option or standing (slack).
+fn reactive_exceeds_active(random: &mut Random, line: &mut [u8], slots: usize, r: i64) {
     let slots = slots.max(1);
     let (option, slot) = (4 + 8 * slots, 8 * random.below(slots));
     let first = 4 + if draws_standing(line) { 8 * slots } else { 0 };
@@ -127,17 +155,10 @@ fn reactive_exceeds_active(random: &mut Random, line: &mut [u8], slots: usize) {
         true => 4 + slot,
         false => first + random.below(options.max(1)) * option + 4 + slot,
     };
-    let powers: [&[u8]; 8] = [
-        b"0004FFFB",
-        b"00040005",
-        b"0000FFFF",
-        b"00000001",
-        b"7FFF8000",
-        b"00008000",
-        b"7FFE7FFF",
-        b"00FFFF00",
-    ];
-    put(line, at, random.pick(&powers));
+    let p = random.pick(&[0, 0, 4, 4, 255, 65_535, 65_535]);
+    let beyond = random.pick(&[1, 1, 1, 1, 1, 256, 32_767]);
+    let pair = ratios::at(random, p, r, beyond);
+    put(line, at, draw::digits(&[pair]).as_bytes());
 }
 
 /// Another value for a byte, never its own. The style, of 0 to `STYLES` - 1, selects which:
@@ -202,15 +223,18 @@ pub fn reorder(random: &mut Random, text: &mut Vec<u8>) {
     *text = lines.concat();
 }
 
-/// The book with each kind of load lines, and two that are none, in turn on one of its load lines; as long as the line
-/// was, where its own kind gives the book itself, and with the pairs for standing put in or taken out.
+/// The book with each kind of headers and load lines in turn on its header, or on one of its load lines; as long as the line was,
+/// where its own kind gives the book itself, and with the ratio or the pairs for standing put in or taken out.
 pub fn of_each_kind(random: &mut Random, text: &[u8]) -> Vec<Vec<u8>> {
     let (lines, pairs) = (lines(text), 8 * slots(text));
-    let n = 1 + random.below(lines.len() - 1);
+    let load = 1 + random.below(lines.len() - 1);
+    let n = random.pick(&[0, load]);
     let mut other = lines[n].clone();
-    match draws_standing(&other) {
-        true => drop(other.drain(4..4 + pairs)),
-        false => drop(other.splice(4..4, vec![b'0'; pairs])),
+    match (n, &other[..2]) {
+        (0, b"08") => drop(other.drain(8..10)),
+        (0, _) => drop(other.splice(8..8, *b"01")),
+        (_, b"06") => drop(other.drain(4..4 + pairs)),
+        (_, _) => drop(other.splice(4..4, vec![b'0'; pairs])),
     }
     let mut texts = Vec::new();
     for line in [&lines[n], &other] {
@@ -233,7 +257,7 @@ mod tests {
     use super::*;
     use crate::draw;
     use crate::kinds::SMALL;
-    use crate::reference::book::{read, read_where, Load};
+    use crate::reference::book::{read, read_where};
 
     /// Of 300 books with a fault aimed at this refusal, those that are refused so. Every load draws standing, so that it is the
     /// longer lines that are aimed at.
@@ -259,7 +283,7 @@ mod tests {
     fn slack_is_put_into_standing_and_into_options() {
         let (standing, options): (Vec<_>, Vec<_>) = reached(7)
             .into_iter()
-            .partition(|text| read_where(text, Load::options_within_active).is_ok());
+            .partition(|text| read_where(text, |load, r| load.options_all(|p, q| ratio::kept(r, p, q))).is_ok());
         assert!(standing.len() > 75, "{} of standing", standing.len());
         assert!(options.len() > 75, "{} of options", options.len());
     }

@@ -1,76 +1,137 @@
 //! Random valid books, the twin of a book, the longest book, a book with the longest sheet and views, and the bytes of a book;
-//! days of books in a module of their own.
+//! days of books, and books at the ratio that they state, in modules of their own.
 
 pub mod days;
+pub mod ratios;
 
 use crate::random::Random;
 use crate::reference::book::{Book, Level, Load};
+use crate::reference::ratio::{self, Ratio};
 use crate::reference::standing::Standing;
 use crate::reference::{grid, MOST_CELLS};
 use std::ops::RangeInclusive;
 
-/// What a drawn book may have at most, and at least so many loads.
+/// What a drawn book may have at most, and at least so many loads; and the ratios of which its header states one.
 #[derive(Clone, Copy)]
 pub struct Bounds {
     pub fewest_loads: usize,
     pub loads: usize,
     pub choices: u64,
     pub cells: u128,
+    pub ratios: &'static [Ratio],
 }
 
-/// Headers with exactly 1,048,576 cells: T limits, N and d. In every slot R + 1 and 2R + N + 1 are powers of two.
-pub const FULL_TABLES: &[(&[i64], usize, u64)] = &[
-    (&[65_535, 15], 1, 31),
-    (&[31, 15], 1, 64),
-    (&[3, 127], 1, 64),
-    (&[65_535, 300, 3, 3_000], 1, 3),
-    (&[1, 1, 1, 1], 13, 5),
+/// As many headers of kind `01` as of kind `08`.
+pub const ANY_RATIO: &[Ratio] = &[None, None, None, Some(1), Some(2), Some(3)];
+
+/// A header without its budget, and how many options each load has.
+struct Header {
+    ratio: Ratio,
+    fineness: u64,
+    limits: Vec<i64>,
+    options: Vec<usize>,
+}
+
+impl Header {
+    fn cells(&self) -> u128 {
+        self.cells_with(&self.limits)
+    }
+
+    /// The cells with these limits in place of its own.
+    fn cells_with(&self, limits: &[i64]) -> u128 {
+        let slot = |&limit: &i64| grid::Slot::new(limit, self.options.len(), self.fineness);
+        let slots: Vec<grid::Slot> = limits.iter().map(slot).collect();
+        grid::cells(&slots, ratio::of(self.ratio))
+    }
+}
+
+/// Headers with exactly 1,048,576 cells: r, T limits, N and d. In every slot R + 1 and 2rR + (2r - 1)N + 1 are powers of two.
+const FULL_TABLES: &[(i64, &[i64], usize, u64)] = &[
+    (1, &[65_535, 15], 1, 31),
+    (1, &[31, 15], 1, 64),
+    (1, &[3, 127], 1, 64),
+    (1, &[65_535, 300, 3, 3_000], 1, 3),
+    (1, &[1, 1, 1, 1], 13, 5),
+    (2, &[65_535, 15], 1, 15),
+    (2, &[31, 7], 1, 64),
+    (2, &[1, 3, 3, 1], 1, 64),
+    (3, &[7, 7], 17, 2),
 ];
 
 /// A book within the bounds.
 pub fn book(random: &mut Random, bounds: Bounds) -> Book {
     let most = random.pick(&[bounds.cells, bounds.cells, bounds.cells / 4]);
-    let options = options(random, bounds);
-    let slots = slots(random, options.len(), most);
     let any = random.within(1..=64) as u64;
-    let fineness = random.pick(&[1, 1, 1, 2, 3, any, 64]);
-    let limits = limits(random, slots, options.len(), fineness, most);
-    filled(random, &limits, &options, fineness)
+    let mut header = Header {
+        ratio: random.pick(bounds.ratios),
+        fineness: random.pick(&[1, 1, 1, 2, 3, any, 64]),
+        limits: Vec::new(),
+        options: options(random, bounds),
+    };
+    let slots = slots(random, &header, most);
+    set_limits(random, &mut header, slots, most);
+    filled(random, &header)
 }
 
 /// A book of more than 1,048,576 cells (oversize), by little or by much: for some the product passes 2^64.
 pub fn too_many_cells(random: &mut Random) -> Book {
     loop {
-        let (limits, options, fineness) = match random.below(4) {
+        let header = match random.below(4) {
             0 => fuller_table(random),
             _ => loose_header(random),
         };
-        if cells(&limits, options.len(), fineness) > MOST_CELLS {
-            return filled(random, &limits, &options, fineness);
+        if header.cells() > MOST_CELLS {
+            return filled(random, &header);
         }
     }
 }
 
-fn loose_header(random: &mut Random) -> (Vec<i64>, Vec<usize>, u64) {
+fn loose_header(random: &mut Random) -> Header {
     let slots = 1 + random.below(4);
-    let limits = (0..slots).map(|_| limit(random)).collect();
-    (limits, options(random, LOOSE), random.within(1..=64) as u64)
+    Header {
+        ratio: random.pick(LOOSE.ratios),
+        fineness: random.within(1..=64) as u64,
+        limits: (0..slots).map(|_| limit(random)).collect(),
+        options: options(random, LOOSE),
+    }
 }
 
-/// A header of exactly 1,048,576 cells with one limit raised.
-fn fuller_table(random: &mut Random) -> (Vec<i64>, Vec<usize>, u64) {
-    let (limits, loads, fineness) = random.pick(FULL_TABLES);
-    let mut limits = limits.to_vec();
-    let slot = random.below(limits.len());
-    limits[slot] = (limits[slot] + 1).min(65_535);
-    (limits, vec![1; loads], fineness)
+/// A header of exactly 1,048,576 cells, with any r.
+fn full_header(random: &mut Random) -> Header {
+    let r = random.within(ratio::RANGE);
+    let tables: Vec<_> = FULL_TABLES.iter().filter(|table| table.0 == r).collect();
+    let (_, limits, loads, fineness) = *random.pick(&tables);
+    Header {
+        ratio: stated(random, r),
+        fineness,
+        limits: limits.to_vec(),
+        options: (0..loads).map(|_| 1 + random.below(2)).collect(),
+    }
 }
 
-/// A book of exactly 1,048,576 cells, with few choices.
+/// A way to state r: a header of kind `01` does for 1.
+fn stated(random: &mut Random, r: i64) -> Ratio {
+    match r {
+        1 => random.pick(&[None, Some(1)]),
+        _ => Some(r),
+    }
+}
+
+/// A header of exactly 1,048,576 cells with one limit raised, or with r raised.
+fn fuller_table(random: &mut Random) -> Header {
+    let mut header = full_header(random);
+    let (slot, r) = (random.below(header.limits.len()), ratio::of(header.ratio));
+    match random.below(2) {
+        0 => header.limits[slot] = (header.limits[slot] + 1).min(65_535),
+        _ => header.ratio = Some((r + 1).min(3)),
+    }
+    header
+}
+
+/// A book of exactly 1,048,576 cells.
 pub fn full_table(random: &mut Random) -> Book {
-    let (limits, loads, fineness) = random.pick(FULL_TABLES);
-    let options: Vec<usize> = (0..loads).map(|_| 1 + random.below(2)).collect();
-    filled(random, limits, &options, fineness)
+    let header = full_header(random);
+    filled(random, &header)
 }
 
 const LOOSE: Bounds = Bounds {
@@ -78,6 +139,7 @@ const LOOSE: Bounds = Bounds {
     loads: 24,
     choices: u64::MAX,
     cells: u128::MAX,
+    ratios: ANY_RATIO,
 };
 
 /// How many options each load has.
@@ -95,34 +157,25 @@ fn options(random: &mut Random, bounds: Bounds) -> Vec<usize> {
     options
 }
 
-fn cells(limits: &[i64], loads: usize, fineness: u64) -> u128 {
-    let slots: Vec<grid::Slot> = limits
-        .iter()
-        .map(|&limit| grid::Slot::new(limit, loads, fineness))
-        .collect();
-    grid::cells(&slots)
-}
-
 /// A number of slots for which even limits of 0 leave room for cells.
-fn slots(random: &mut Random, loads: usize, most: u128) -> usize {
+fn slots(random: &mut Random, header: &Header, most: u128) -> usize {
     let mut slots = 1 + random.below(4);
-    while slots > 1 && 4 * cells(&vec![0; slots], loads, 1) > most {
+    while slots > 1 && 4 * header.cells_with(&vec![0; slots]) > most {
         slots -= 1;
     }
     slots
 }
 
 /// Limits within the bound on cells: each slot in turn takes one that fits beside those before it.
-fn limits(random: &mut Random, slots: usize, loads: usize, fineness: u64, most: u128) -> Vec<i64> {
-    let mut limits = vec![0; slots];
+fn set_limits(random: &mut Random, header: &mut Header, slots: usize, most: u128) {
+    header.limits = vec![0; slots];
     let first = random.below(slots);
     for slot in (0..slots).map(|i| (first + i) % slots) {
-        limits[slot] = limit(random);
-        while cells(&limits, loads, fineness) > most {
-            limits[slot] = limit(random).min(3 * limits[slot] / 4);
+        header.limits[slot] = limit(random);
+        while header.cells() > most {
+            header.limits[slot] = limit(random).min(3 * header.limits[slot] / 4);
         }
     }
-    limits
 }
 
 fn limit(random: &mut Random) -> i64 {
@@ -134,6 +187,8 @@ fn limit(random: &mut Random) -> i64 {
 /// How a drawn book's worths and powers are spread.
 #[derive(Clone, Copy)]
 struct Spread {
+    /// r.
+    ratio: i64,
     /// The greatest worth.
     worth: i64,
     /// The style of `power`, of 0 to 6.
@@ -160,8 +215,9 @@ enum Heat {
 }
 
 impl Spread {
-    fn new(random: &mut Random) -> Spread {
+    fn new(random: &mut Random, ratio: Ratio) -> Spread {
         Spread {
+            ratio: ratio::of(ratio),
             worth: random.pick(&[0, 1, 2, 3, 3, 20, 20, 300, 65_535, 65_535]),
             power: random.pick(&[0, 1, 2, 2, 2, 3, 3, 3, 4, 5, 6]),
             reactive: random.below(7),
@@ -183,20 +239,21 @@ impl Heat {
     }
 }
 
-fn filled(random: &mut Random, limits: &[i64], options: &[usize], fineness: u64) -> Book {
-    let spread = Spread::new(random);
-    filled_by(random, limits, options, fineness, spread)
+fn filled(random: &mut Random, header: &Header) -> Book {
+    let spread = Spread::new(random, header.ratio);
+    filled_by(random, header, spread)
 }
 
-fn filled_by(random: &mut Random, limits: &[i64], options: &[usize], fineness: u64, spread: Spread) -> Book {
+fn filled_by(random: &mut Random, header: &Header, spread: Spread) -> Book {
     let mut book = Book {
-        fineness,
+        fineness: header.fineness,
+        ratio: header.ratio,
         budget: 0xFFFF_FFFF,
-        limits: limits.to_vec(),
+        limits: header.limits.clone(),
         loads: Vec::new(),
     };
-    for &o in options {
-        let load = load(random, &book.limits, options.len(), o, spread);
+    for &o in &header.options {
+        let load = load(random, &book.limits, header.options.len(), o, spread);
         let load = like_the_last(random, &book, load);
         book.loads.push(load);
     }
@@ -261,27 +318,28 @@ fn standing_power(random: &mut Random, limit: i64, loads: i64, spread: Spread) -
     up_to(random, most, spread)
 }
 
-/// A P of 16 bits, often the largest, and its Q.
+/// A P of 16 bits, often the largest, and its Q. Half the time |Q|, and not P, is at most `most`.
 fn up_to(random: &mut Random, most: i64, spread: Spread) -> (i64, i64) {
-    let most = most.min(65_535);
+    let most = (most / random.pick(&[1, spread.ratio])).min(65_535);
     let p = if random.one_in(6) {
         most
     } else {
         random.within(0..=most)
     };
-    (p, reactive(random, p, spread.reactive))
+    (p, reactive(random, p, spread.ratio, spread.reactive))
 }
 
-/// A Q of 16 bits with |Q| ≤ P.
-fn reactive(random: &mut Random, p: i64, style: usize) -> i64 {
+/// A Q of 16 bits with |Q| ≤ r × P.
+fn reactive(random: &mut Random, p: i64, r: i64, style: usize) -> i64 {
+    let most = r * p;
     let q = match style {
-        0 => p,
-        1 => -p,
+        0 => most,
+        1 => -most,
         2 => 0,
-        3 => random.pick(&[p, -p, 0, -1, 1, 1 - p, p - 1]),
-        _ => random.within(-p..=p),
+        3 => random.pick(&[most, -most, 0, -1, 1, 1 - most, most - 1]),
+        _ => random.within(-most..=most),
     };
-    q.clamp(-p, p).clamp(-32_768, 32_767)
+    q.clamp(-most, most).clamp(-32_768, 32_767)
 }
 
 /// Now and then in place of a load: the load before it again, with the same or with opposite Q, or with another standing pair or
@@ -296,11 +354,16 @@ fn like_the_last(random: &mut Random, book: &Book, drawn: Load) -> Load {
         (load.must_run, load.standing) = (drawn.must_run, drawn.standing);
     }
     if random.one_in(2) {
-        let levels = load.levels.iter_mut().map(|level| &mut level.powers);
-        let powers = levels.chain(&mut load.standing).flatten();
-        powers.for_each(|(_, q)| *q = (-*q).min(32_767));
+        let pairs = powers_of(&mut load).flatten();
+        pairs.for_each(|(_, q)| *q = (-*q).min(32_767));
     }
     load
+}
+
+/// P and Q of each slot, of every option and of standing.
+fn powers_of(load: &mut Load) -> impl Iterator<Item = &mut Vec<(i64, i64)>> {
+    let options = load.levels.iter_mut().map(|level| &mut level.powers);
+    options.chain(&mut load.standing)
 }
 
 /// What a load draws, in eighths of its share of the limit.
@@ -316,12 +379,12 @@ fn part_of_share(random: &mut Random, eighths: i64, limit: i64, loads: i64) -> i
 pub fn heated(random: &mut Random, bounds: Bounds, standing: &[Eighths], running: &Eighths) -> Book {
     let mut book = book(random, bounds);
     let (limits, loads) = (book.limits.clone(), book.loads.len() as i64);
-    let style = random.below(7);
+    let (r, style) = (ratio::of(book.ratio), random.below(7));
     let powers = |random: &mut Random, eighths: &Eighths| -> Vec<(i64, i64)> {
         let power = |&limit: &i64| {
             let eighths = random.within(eighths.clone());
             let p = part_of_share(random, eighths, limit, loads).min(65_535);
-            (p, reactive(random, p, style))
+            (p, reactive(random, p, r, style))
         };
         limits.iter().map(power).collect()
     };
@@ -358,11 +421,13 @@ pub fn with_must_run(random: &mut Random, book: &Book) -> Book {
     book
 }
 
-/// Another book with the same limits, and a choice of it with the same sums in every slot: two loads carry what each load draws,
-/// running or standing, and one more stands and draws nothing. The book has at most 11 loads.
+/// Another book with the same limits and at least the same r, and a choice of it with the same sums in every slot: two loads carry
+/// what each load draws, running or standing, and one more stands and draws nothing. The book has at most 11 loads.
 pub fn twin(random: &mut Random, book: &Book, choice: &[usize]) -> (Book, Vec<usize>) {
+    let r = random.within(ratio::of(book.ratio)..=3);
     let mut twin = Book {
         fineness: random.within(1..=64) as u64,
+        ratio: stated(random, r),
         budget: random.word() >> 32,
         limits: book.limits.clone(),
         loads: Vec::new(),
@@ -371,7 +436,7 @@ pub fn twin(random: &mut Random, book: &Book, choice: &[usize]) -> (Book, Vec<us
     let other = vec![(1, 0); book.limits.len()];
     for (load, c) in book.chosen(choice) {
         let powers: Vec<(i64, i64)> = (0..book.limits.len()).map(|slot| load.power(c, slot)).collect();
-        for part in halves(&powers) {
+        for part in halves(&powers, r) {
             let load = match random.below(4) {
                 0 => one_level(random, None, part),
                 1 => Load {
@@ -399,23 +464,33 @@ fn one_level(random: &mut Random, standing: Standing, powers: Vec<(i64, i64)>) -
     }
 }
 
-/// Powers in two parts. |Q| is rounded as P is, so that |Q| ≤ P holds in both.
-fn halves(powers: &[(i64, i64)]) -> [Vec<(i64, i64)>; 2] {
-    let half = powers.iter().map(|(p, q)| (p / 2, q / 2));
-    let rest = powers.iter().map(|(p, q)| (p - p / 2, q - q / 2));
-    [half.collect(), rest.collect()]
+/// Powers in two parts. The first |Q| is cut to r × P; then |Q| ≤ r × P holds of the second too.
+fn halves(powers: &[(i64, i64)], r: i64) -> [Vec<(i64, i64)>; 2] {
+    let half = |&(p, q): &(i64, i64)| (p / 2, (q / 2).clamp(-r * (p / 2), r * (p / 2)));
+    let halves: Vec<(i64, i64)> = powers.iter().map(half).collect();
+    let rest = powers
+        .iter()
+        .zip(&halves)
+        .map(|((p, q), half)| (p - half.0, q - half.1));
+    let rest = rest.collect();
+    [halves, rest]
 }
 
-/// A book of four slots and 24 loads that draw standing, of three levels each: none has more bytes.
+/// A book of four slots and 24 loads that draw standing, of three levels each, with a header that states a ratio: none has more
+/// bytes.
 pub fn longest(random: &mut Random) -> Book {
-    let limits: Vec<i64> = (0..4).map(|_| limit(random)).collect();
+    let header = Header {
+        ratio: Some(random.within(ratio::RANGE)),
+        fineness: random.within(1..=64) as u64,
+        limits: (0..4).map(|_| limit(random)).collect(),
+        options: vec![3; 24],
+    };
     let spread = Spread {
         standing_loads: 8,
         must_run_loads: 0,
-        ..Spread::new(random)
+        ..Spread::new(random, header.ratio)
     };
-    let fineness = random.within(1..=64) as u64;
-    filled_by(random, &limits, &[3; 24], fineness, spread)
+    filled_by(random, &header, spread)
 }
 
 /// A book of four slots and 24 loads, of two levels each: none has a longer sheet, or longer views where all loads run.
@@ -431,6 +506,7 @@ pub fn longest_views() -> Book {
     };
     Book {
         fineness: 1,
+        ratio: None,
         budget: 0,
         limits: vec![24; 4],
         loads: vec![load; 24],
@@ -440,7 +516,14 @@ pub fn longest_views() -> Book {
 /// The bytes of a book.
 pub fn text(book: &Book) -> Vec<u8> {
     let (slots, loads) = (book.limits.len(), book.loads.len());
-    let mut text = format!("01{slots:02X}{loads:02X}{:02X}{:08X}", book.fineness, book.budget);
+    let (kind, ratio) = match book.ratio {
+        None => ("01", String::new()),
+        Some(r) => ("08", format!("{r:02X}")),
+    };
+    let mut text = format!(
+        "{kind}{slots:02X}{loads:02X}{:02X}{ratio}{:08X}",
+        book.fineness, book.budget
+    );
     for limit in &book.limits {
         text += &format!("{limit:04X}");
     }
@@ -461,7 +544,7 @@ pub fn text(book: &Book) -> Vec<u8> {
 }
 
 /// The digits of P and Q of each slot.
-fn digits(powers: &[(i64, i64)]) -> String {
+pub fn digits(powers: &[(i64, i64)]) -> String {
     let digits = powers.iter().map(|&(p, q)| format!("{p:04X}{:04X}", q as i16));
     digits.collect()
 }
@@ -476,8 +559,14 @@ mod tests {
 
     #[test]
     fn full_tables_are_full() {
-        for &(limits, loads, fineness) in FULL_TABLES {
-            assert_eq!(cells(limits, loads, fineness), MOST_CELLS);
+        for &(r, limits, loads, fineness) in FULL_TABLES {
+            let header = Header {
+                ratio: Some(r),
+                fineness,
+                limits: limits.to_vec(),
+                options: vec![1; loads],
+            };
+            assert_eq!(header.cells(), MOST_CELLS);
         }
     }
 
@@ -496,7 +585,7 @@ mod tests {
     fn the_longest_book() {
         let longest = longest(&mut Random::new(4));
         let text = text(&longest);
-        assert_eq!((text.len(), BOOK_MAX), (3_513, 3_513));
+        assert_eq!((text.len(), BOOK_MAX), (3_515, 3_515));
         assert_eq!(Case::new(text).book, Ok(longest));
     }
 

@@ -1,10 +1,11 @@
 //! The kinds of inputs that the archive is compared on. A run of a kind makes one call or more.
 
 pub mod days;
+mod ratios;
 
 use crate::call::Input;
 use crate::damage::{changed, fault, of_each_kind, plausible, reorder, shift, STYLES};
-use crate::draw::{self, Bounds, Eighths};
+use crate::draw::{self, Bounds, Eighths, ANY_RATIO};
 use crate::random::Random;
 use crate::reference::book::Book;
 use crate::reference::{must_run, plan, quick, sheet, Case, MOST_CELLS};
@@ -19,49 +20,55 @@ pub struct Kind {
 }
 
 pub const KINDS: &[Kind] = &[
-    kind("small books", 600, small_books),
-    kind("larger grids", 100, larger_grids),
-    kind("many loads", 150, many_loads),
+    kind("small books", 560, small_books),
+    kind("larger grids", 90, larger_grids),
+    kind("many loads", 130, many_loads),
     kind("large tables", 20, large_tables),
-    kind("budgets", 450, budgets),
-    kind("work areas", 350, work_areas),
-    kind("sheet buffers", 350, buffers),
-    kind("several shortages", 350, shortages),
-    kind("words of earlier plans", 320, earlier_words),
+    kind("budgets", 400, budgets),
+    kind("work areas", 290, work_areas),
+    kind("sheet buffers", 290, buffers),
+    kind("several shortages", 290, shortages),
+    kind("words of earlier plans", 270, earlier_words),
     kind("oversize books", 200, too_many_cells),
     kind("1,048,576 cells", 2, full_tables),
-    kind("one fault", 500, one_fault),
+    kind("one fault", 450, one_fault),
     kind("two faults", 450, two_faults),
-    kind("truncated books", 550, truncated_books),
-    kind("a byte changed", 850, changed_books),
-    kind("bytes inserted, deleted", 250, shifted_books),
-    kind("lines exchanged", 200, reordered_books),
+    kind("truncated books", 480, truncated_books),
+    kind("a byte changed", 800, changed_books),
+    kind("bytes inserted, deleted", 220, shifted_books),
+    kind("lines exchanged", 170, reordered_books),
     kind("random bytes", 100, random_bytes),
     kind("random digits", 100, random_digits),
-    kind("sheets of choices", 250, sheets_of_choices),
-    kind("sheets, a byte changed", 250, changed_sheets),
-    kind("sheets, cut or longer", 150, cut_sheets),
+    kind("sheets of choices", 200, sheets_of_choices),
+    kind("sheets, a byte changed", 200, changed_sheets),
+    kind("sheets, cut or longer", 120, cut_sheets),
     kind("sheets of other books", 50, foreign_sheets),
     kind("sheets, level above o", 48, levels_above),
-    kind("charges", 200, charges),
+    kind("charges", 170, charges),
     kind("numbers of prices", 100, price_counts),
-    kind("orders", 200, orders),
+    kind("orders", 170, orders),
     kind("orders, buffers", 100, order_buffers),
     kind("orders, names", 100, order_names),
-    kind("views", 150, views),
-    kind("views, buffers", 150, view_buffers),
+    kind("views", 120, views),
+    kind("views, buffers", 120, view_buffers),
     kind("views of twins", 100, views_of_twins),
     kind("views as sheets", 50, views_as_sheets),
-    kind("no choice admitted", 250, none_admitted),
-    kind("running draws less", 150, running_draws_less),
-    kind("standing draws nothing", 200, standing_draws_nothing),
+    kind("no choice admitted", 200, none_admitted),
+    kind("running draws less", 130, running_draws_less),
+    kind("standing draws nothing", 150, standing_draws_nothing),
     kind("passed over, fits later", 50, fits_later),
     kind("longest books", 10, longest_books),
-    kind("must run, none admitted", 200, must_run_none_admitted),
-    kind("must run, crowding out", 150, must_run_crowds_out),
-    kind("must run, start too large", 150, must_run_start_too_large),
-    kind("sheets, must run stands", 150, must_run_stands),
-    kind("kinds of load lines", 100, line_kinds),
+    kind("must run, none admitted", 160, must_run_none_admitted),
+    kind("must run, crowding out", 120, must_run_crowds_out),
+    kind("must run, start too large", 120, must_run_start_too_large),
+    kind("sheets, must run stands", 120, must_run_stands),
+    kind("kinds of lines", 150, line_kinds),
+    kind("every header", 160, ratios::every_header),
+    kind("r = 1, both kinds", 150, ratios::one_by_both_kinds),
+    kind("|Q| about r x P", 220, ratios::near_ratio),
+    kind("r outside 1 to 3", 160, ratios::out_of_range),
+    kind("work areas by r", 170, ratios::work_areas),
+    kind("loads that cancel", 170, ratios::cancelling),
     kind("days", 100, days::right_books),
     kind("days, refused books", 120, days::refused_books),
     kind("days, empty lines", 120, days::empty_lines),
@@ -96,6 +103,7 @@ pub const SMALL: Bounds = Bounds {
     loads: 9,
     choices: 1_200,
     cells: 3_000,
+    ratios: ANY_RATIO,
 };
 
 const LARGER: Bounds = Bounds { cells: 60_000, ..SMALL };
@@ -105,6 +113,7 @@ const MANY: Bounds = Bounds {
     loads: 24,
     choices: u64::MAX,
     cells: 5_000,
+    ratios: ANY_RATIO,
 };
 
 const LARGE: Bounds = Bounds { cells: 300_000, ..MANY };
@@ -444,9 +453,12 @@ fn random_digits(session: &mut Session) {
         b"01",
         b"0101",
         b"010101",
+        b"0801",
+        b"0801010103",
         b"0101010100000020FFFF\n0201",
         b"0101010100000020FFFF\n0601",
         b"0101010100000020FFFF\n0701",
+        b"080101010300000020FFFF\n0201",
     ]);
     let mut text = start.to_vec();
     text.extend((0..random.below(60)).map(|_| plausible(random)));
@@ -763,10 +775,16 @@ fn standing_draws_nothing(session: &mut Session) {
     for load in zeros.loads.iter_mut().filter(|_| random.one_in(4)) {
         load.standing = None;
     }
-    let cases = [case(&plain), case(&zeros)];
-    let choice = random_choice(random, &plain);
-    let [running, planned] = [random_sheet(random, &plain), sheet::write(&plain, &choice, 0)];
-    let (prices, names) = (prices(random, plain.limits.len()), names(random, &choice, true));
+    all_alike(session, &plain, &zeros);
+}
+
+/// All calls on two books that mean the same, also with a budget that does not suffice.
+fn all_alike(session: &mut Session, first: &Book, second: &Book) {
+    let random = &mut session.random;
+    let cases = [case(first), case(second)];
+    let choice = random_choice(random, first);
+    let [running, planned] = [random_sheet(random, first), sheet::write(first, &choice, 0)];
+    let (prices, names) = (prices(random, first.limits.len()), names(random, &choice, true));
     let need = needed_words(&cases[0]);
     let words = session.words(need);
     let buffer = session.bytes(VIEW_MAX.max(cases[0].sheet_bytes()));
@@ -790,17 +808,20 @@ fn standing_draws_nothing(session: &mut Session) {
 /// Books in which the quick planner passes over a load that it could take later, when others run and draw less than standing.
 fn fits_later(session: &mut Session) {
     let amounts: &[Amounts] = &[(&[0..=2, 0..=2, 12..=24], 3..=8), (&[0..=1, 8..=16], 5..=9)];
-    let case = heated(session, amounts, |_, book| {
-        let choice = quick::choice(book);
-        choice.is_some_and(|choice| {
-            let standing = |&k: &usize| choice[k] == 0;
-            (0..choice.len())
-                .filter(standing)
-                .any(|k| quick::taken(book, &choice, k).is_some())
-        })
-    });
+    let case = heated(session, amounts, |_, book| some_fits_later(book));
     session.quick(&case, case.sheet_bytes());
     session.plan(&case, needed_words(&case), case.sheet_bytes());
+}
+
+/// Whether the quick planner leaves a load standing that it could take in the end.
+fn some_fits_later(book: &Book) -> bool {
+    let choice = quick::choice(book);
+    choice.is_some_and(|choice| {
+        let standing = |&k: &usize| choice[k] == 0;
+        (0..choice.len())
+            .filter(standing)
+            .any(|k| quick::taken(book, &choice, k).is_some())
+    })
 }
 
 /// Books with as many bytes as a book can have.
@@ -888,7 +909,7 @@ fn not_all_running(random: &mut Random, book: &Book, choice: &[usize]) -> Vec<us
     choice
 }
 
-/// Books with each kind in turn on a load line, at both lengths: refused (3, 5), another book, or the book itself.
+/// Books with each kind in turn on the header or on a load line, at both lengths: refused (3, 5), another book, or the book itself.
 fn line_kinds(session: &mut Session) {
     let text = draw::text(&draw::book(&mut session.random, SMALL));
     for text in of_each_kind(&mut session.random, &text) {

@@ -8,6 +8,7 @@ pub mod must_run;
 pub mod order;
 pub mod plan;
 pub mod quick;
+pub mod ratio;
 pub mod sheet;
 pub mod standing;
 #[cfg(test)]
@@ -48,6 +49,7 @@ pub struct Outcome {
 pub struct Case {
     pub text: Vec<u8>,
     pub book: Result<Book, Refusal>,
+    cells: u128,
     planned: OnceCell<Compared>,
     /// The books of a day; none where these bytes are one book.
     parts: OnceCell<Vec<Case>>,
@@ -74,8 +76,14 @@ impl Compared {
 impl Case {
     pub fn new(text: Vec<u8>) -> Case {
         let book = book::read(&text);
+        Case::read_as(text, book)
+    }
+
+    /// The case of bytes that are read so.
+    pub fn read_as(text: Vec<u8>, book: Result<Book, Refusal>) -> Case {
         Case {
             text,
+            cells: book.as_ref().map_or(0, grid::cells_of),
             book,
             planned: OnceCell::new(),
             parts: OnceCell::new(),
@@ -85,7 +93,9 @@ impl Case {
     /// The case of the same book with another budget. The plan does not depend on the budget and is found once.
     pub fn with_budget(&self, budget: u64) -> Case {
         let mut text = self.text.clone();
-        text[8..16].copy_from_slice(format!("{budget:08X}").as_bytes());
+        // After d, and after the ratio where the header states one.
+        let at = if ratio::stated_in(&text) { 10 } else { 8 };
+        text[at..at + 8].copy_from_slice(format!("{budget:08X}").as_bytes());
         Case {
             planned: self.planned.clone(),
             ..Case::new(text)
@@ -106,6 +116,15 @@ impl Case {
     pub fn with_planned(&self, planned: Planned) -> Case {
         Case {
             planned: OnceCell::from(Compared { planned, doubt: None }),
+            ..Case::new(self.text.clone())
+        }
+    }
+
+    /// The case of the same book with cells that are given: for the self-check, whose are wrong.
+    pub fn with_cells(&self, cells: u128) -> Case {
+        Case {
+            cells,
+            planned: self.planned.clone(),
             ..Case::new(self.text.clone())
         }
     }
@@ -136,7 +155,7 @@ impl Case {
 
     /// The cells of a book that was read, 0 for another.
     pub fn cells(&self) -> u128 {
-        self.book.as_ref().map_or(0, |book| grid::cells(&grid::slots(book)))
+        self.cells
     }
 
     /// The bytes of a sheet of a book that was read, 0 for another.

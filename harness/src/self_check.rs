@@ -3,6 +3,7 @@
 //! reference in each of its calls, is one check.
 
 mod days;
+mod ratios;
 
 use crate::call::{Call, Function, Input};
 use crate::damage::fault;
@@ -11,7 +12,7 @@ use crate::kinds::{self, SMALL};
 use crate::random::Random;
 use crate::reference::book::{self, Book, Load};
 use crate::reference::plan::{self, Plan, Planned};
-use crate::reference::{must_run, quick, sheet, written, Case, Outcome, EXAMPLE};
+use crate::reference::{must_run, quick, ratio, sheet, written, Case, Outcome, EXAMPLE};
 use crate::session::Session;
 use crate::{Answer, DAY_MAX, SHEET_MAX};
 use std::cmp::Reverse;
@@ -291,7 +292,13 @@ impl Checks {
 pub fn run() -> Checks {
     let mut checks = Checks::default();
     let bases = [bases(), view_bases(), standing_plan_bases(), standing_sheet_bases()];
-    let later_bases = [must_run_plan_bases(), must_run_sheet_bases(), days::bases()];
+    let later_bases = [
+        must_run_plan_bases(),
+        must_run_sheet_bases(),
+        days::bases(),
+        ratios::plan_bases(),
+        ratios::sheet_bases(),
+    ];
     for base in bases.iter().chain(&later_bases).flatten() {
         check_base(&mut checks, base);
     }
@@ -343,6 +350,10 @@ fn check_session(checks: &mut Checks, name: &str, alter: fn(&mut Call)) {
 const GROUPS: &[(Books, &[&[Mistake]])] = &[
     (RIGHT, &[STANDING_MISTAKES, MUST_RUN_MISTAKES]),
     (SLACK, &[READING_MISTAKES]),
+    (ratios::STATED, &[ratios::CELL_MISTAKES, ratios::CANCEL_MISTAKES]),
+    (ratios::OVERSIZE, &[ratios::OVERSIZE_MISTAKES]),
+    (ratios::NEAR, &[ratios::SLACK_MISTAKES]),
+    (ratios::HEADERS, &[ratios::HEADER_MISTAKES]),
     (days::DAYS, &[days::PARTING_MISTAKES, days::ANSWER_MISTAKES]),
 ];
 
@@ -362,6 +373,7 @@ const PLANNERS: &[Function] = EVERY.split_at(2).0;
 const READERS: &[Function] = EVERY.split_at(2).1.split_at(5).0;
 const DAY: &[Function] = &[Function::Day];
 const PLAN: &[Function] = &[Function::Plan];
+const PLAN_AND_DAY: &[Function] = &[Function::Plan, Function::Day];
 const QUICK: &[Function] = &[Function::Quick];
 
 /// A reference with a mistake: the calls that the mistake bears on, and what a call would have to leave.
@@ -472,13 +484,13 @@ const MUST_RUN_MISTAKES: &[Mistake] = &[
     ),
 ];
 
-/// To be seen on books with a |Q| above P.
+/// To be seen on books with a |Q| above r × P.
 const READING_MISTAKES: &[Mistake] = &[
     ("standing left out of refusal 7", EVERY, |case, input| {
-        read_where(case, Load::options_within_active).outcome(input)
+        read_where(case, |load, r| load.options_all(|p, q| ratio::kept(r, p, q))).outcome(input)
     }),
     ("loads that must run left out of refusal 7", EVERY, |case, input| {
-        read_where(case, |load| load.must_run || load.within_active()).outcome(input)
+        read_where(case, |load, r| load.must_run || load.keeps(r)).outcome(input)
     }),
 ];
 
@@ -487,11 +499,16 @@ type Books = (&'static str, fn(&mut Random) -> Case);
 
 /// With budgets that suffice and that do not.
 const RIGHT: Books = ("right books", |random| {
-    let case = Case::new(draw::text(&draw::book(random, SMALL)));
-    case.with_budget(random.pick(&[0xFFFF_FFFF, case.planned().trials - 1]))
+    let book = draw::book(random, SMALL);
+    with_some_budget(random, &book)
 });
 
-/// With a |Q| above P, in an option or standing.
+fn with_some_budget(random: &mut Random, book: &Book) -> Case {
+    let case = Case::new(draw::text(book));
+    case.with_budget(random.pick(&[0xFFFF_FFFF, case.planned().trials - 1]))
+}
+
+/// With a |Q| above r × P, in an option or standing.
 const SLACK: Books = ("slack books", |random| {
     let mut text = draw::text(&draw::book(random, SMALL));
     fault(random, &mut text, 7);
@@ -518,12 +535,14 @@ fn check_reference(checks: &mut Checks, (books, draw): &Books, (name, functions,
 }
 
 /// Whether this call on the book, or on a day's books, differs from a reference. The planners have a buffer that suffices and
-/// one that does not; on the sheets, loads that must run may stand.
+/// one that does not, and the planner also just the words that it needs, and one less; on the sheets, loads that must run may
+/// stand.
 fn differs(random: &mut Random, case: &Case, function: Function, reference: fn(&Case, Input) -> Outcome) -> bool {
     let text = &case.text;
     let (words, room) = (vec![7; 4 * SMALL.cells as usize], [0; DAY_MAX]);
     let free = &room[..SHEET_MAX];
     let short = &free[..case.sheet_bytes().saturating_sub(1)];
+    let need = (4 * case.cells()).min(words.len() as u128) as usize;
     let [running, planned] = [(); 2].map(|_| sheet_of_any(random, case));
     let (slots, loads) = case
         .book
@@ -533,6 +552,8 @@ fn differs(random: &mut Random, case: &Case, function: Function, reference: fn(&
     let inputs = [
         Input::plan(text, &words, free),
         Input::plan(text, &words, short),
+        Input::plan(text, &words[..need], free),
+        Input::plan(text, &words[..need.saturating_sub(1)], free),
         Input::quick(text, free),
         Input::quick(text, short),
         Input::read_sheet(text, &planned),
@@ -651,11 +672,9 @@ fn with_option_twice(book: &Book) -> Book {
     book
 }
 
-/// The case of the book as it is read where refusal 7 is given unless this holds of a load.
-fn read_where(case: &Case, holds: fn(&Load) -> bool) -> Case {
-    let mut case = Case::new(case.text.clone());
-    case.book = book::read_where(&case.text, holds);
-    case
+/// The case of the book as it is read where refusal 7 is given unless this holds of a load and r.
+fn read_where(case: &Case, holds: impl Fn(&Load, i64) -> bool) -> Case {
+    Case::read_as(case.text.clone(), book::read_where(&case.text, holds))
 }
 
 /// What a call has to leave for the first book, but the sheet is of the second book with the same choice.

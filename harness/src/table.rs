@@ -51,7 +51,7 @@ struct Grid {
     slots: usize,
     steps: [i64; SLOTS],
     bounds: [i64; SLOTS],
-    /// The number of reactive values of a slot; the lowest is -(R + N).
+    /// The number of reactive values of a slot; the lowest is -r(R + N).
     spans: [i64; SLOTS],
     lowest: [i64; SLOTS],
     row_weights: [i64; SLOTS],
@@ -65,7 +65,7 @@ struct Grid {
 impl Grid {
     /// Nothing if there are too many cells.
     fn new(book: &Book) -> Option<Grid> {
-        let loads = book.loads().len() as i64;
+        let (loads, r) = (book.loads().len() as i64, book.ratio);
         let mut grid = Grid {
             slots: book.slots,
             steps: [1; SLOTS],
@@ -84,11 +84,11 @@ impl Grid {
             let bound = limit / step;
             grid.steps[slot] = step;
             grid.bounds[slot] = bound;
-            grid.spans[slot] = 2 * bound + loads + 1;
-            grid.lowest[slot] = -(bound + loads);
+            grid.spans[slot] = 2 * r * bound + (2 * r - 1) * loads + 1;
+            grid.lowest[slot] = -r * (bound + loads);
             grid.row_weights[slot] = grid.rows as i64;
             grid.column_weights[slot] = grid.width as i64;
-            grid.origin += (bound + loads) as usize * grid.width;
+            grid.origin += (r * (bound + loads)) as usize * grid.width;
             grid.rows *= (bound + 1) as usize;
             grid.width *= grid.spans[slot] as usize;
             if grid.rows * grid.width > MOST_CELLS {
@@ -350,7 +350,7 @@ fn best(book: &Book, grid: &Grid, layer: &Layer) -> Option<(u64, u64)> {
 mod tests {
     use super::*;
     use crate::damage::fault;
-    use crate::draw::{self, Bounds};
+    use crate::draw::{self, Bounds, ANY_RATIO};
     use crate::random::Random;
     use crate::reference::Case;
     use crate::SHEET_MAX;
@@ -360,6 +360,7 @@ mod tests {
         loads: 12,
         choices: 10_000,
         cells: 5_000,
+        ratios: ANY_RATIO,
     };
 
     /// The same answers and sheets as the reference, on right and on damaged books.

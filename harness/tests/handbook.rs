@@ -14,12 +14,13 @@ const HANDBOOK: &str = "docs/HANDBOOK.md";
 const PROVED_TABLE: &str = "crates/model/proofs/AcceptanceTable.antt";
 
 /// Books of which the handbook says that what both planners answer is proved.
-const PROVED_BOOKS: [&str; 5] = [
+const PROVED_BOOKS: [&str; 6] = [
     "examples/heaters.book",
     "examples/warm.book",
     "examples/refused/17-no-plan.book",
     "examples/store.book",
     "examples/fans.book",
+    "examples/bank.book",
 ];
 
 /// Folders of the project whose files the handbook names.

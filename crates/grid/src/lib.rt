@@ -7,18 +7,18 @@ ghost use Rattle.model.specs.Grid.{stepFor, slotAt};
 ghost use Rattle.model.specs.Values.{Held, problemOf};
 ghost use Rattle.grid.specs.Geometry.{SlotIs, BookGrid};
 
-// The table's geometry. For each slot: the step L, the number R + 1 of active grid values, the number of reactive ones, and how far below 0
-// these begin. Then the rows, the columns of a row, the cells, and the column of no power.
+// The table's geometry: the cells, the columns of a row, the rows, and for each slot the number R + 1 of active grid values, all of which the search asks for; the
+// column of no power; and for each slot the step L, the number of reactive grid values, and how far below 0 these begin.
 pub struct Grid {
+    pub cells: usize,
+    pub width: usize,
+    pub rows: usize,
     pub slots: usize,
-    pub steps: [u64; Book::SLOTS],
     pub tops: [usize; Book::SLOTS],
+    pub origin: usize,
+    pub steps: [u64; Book::SLOTS],
     pub widths: [usize; Book::SLOTS],
     pub depths: [usize; Book::SLOTS],
-    pub rows: usize,
-    pub width: usize,
-    pub cells: usize,
-    pub origin: usize,
 }
 
 impl Grid {

@@ -3,7 +3,7 @@
 
 use harness::random::Random;
 use harness::reference::book::{Book, Level, Load};
-use harness::reference::grid;
+use harness::reference::{grid, ratio};
 use harness::{draw, plan, SHEET_MAX};
 use std::collections::BTreeSet;
 use std::process::ExitCode;
@@ -11,8 +11,8 @@ use std::process::ExitCode;
 const SEED: u64 = 1;
 const BOOKS: usize = 120;
 
-/// N and T of the sample's books. With d = 1 their tables are small enough for any limit above 0.
-const SHAPES: [(usize, usize); 6] = [(1, 4), (1, 3), (2, 3), (3, 2), (6, 2), (24, 1)];
+/// N, T and the largest r of the sample's books. With d = 1 their tables are small enough for any limit above 0.
+const SHAPES: [(usize, usize, i64); 6] = [(1, 4, 3), (1, 3, 3), (2, 3, 2), (3, 2, 3), (6, 2, 2), (24, 1, 3)];
 
 fn main() -> ExitCode {
     let arguments: Vec<String> = std::env::args().skip(1).collect();
@@ -32,16 +32,31 @@ fn main() -> ExitCode {
     ExitCode::from(u8::from(!books.iter().all(budget_exceeded)))
 }
 
+/// What the powers of a book are drawn by: the steps of its slots, r, and the sign of every Q.
+struct Drawn {
+    steps: Vec<i64>,
+    ratio: i64,
+    sign: i64,
+}
+
 /// A book with a budget of 0 whose every Q has the sign.
-fn book(random: &mut Random, (loads, slots): (usize, usize), sign: i64) -> Book {
+fn book(random: &mut Random, (loads, slots, most): (usize, usize, i64), sign: i64) -> Book {
     let limits: Vec<i64> = (0..slots).map(|_| limit(random)).collect();
     let step = |&limit: &i64| grid::Slot::new(limit, loads, 1).step;
     let steps: Vec<i64> = limits.iter().map(step).collect();
+    let stated = Some(random.within(1..=most));
+    let ratio = random.pick(&[None, stated]);
+    let drawn = Drawn {
+        steps,
+        ratio: ratio::of(ratio),
+        sign,
+    };
     Book {
         fineness: 1,
+        ratio,
         budget: 0,
         limits,
-        loads: (0..loads).map(|_| load(random, &steps, sign)).collect(),
+        loads: (0..loads).map(|_| load(random, &drawn)).collect(),
     }
 }
 
@@ -52,30 +67,31 @@ fn limit(random: &mut Random) -> i64 {
     random.pick(&[any, any, any, 1, 65_535])
 }
 
-fn load(random: &mut Random, steps: &[i64], sign: i64) -> Load {
+fn load(random: &mut Random, drawn: &Drawn) -> Load {
     let levels = 1 + random.below(3);
     let draws_standing = random.one_in(2);
     Load {
         must_run: !draws_standing && random.one_in(2),
-        standing: draws_standing.then(|| powers(random, steps, sign)),
-        levels: (0..levels).map(|_| level(random, steps, sign)).collect(),
+        standing: draws_standing.then(|| powers(random, drawn)),
+        levels: (0..levels).map(|_| level(random, drawn)).collect(),
     }
 }
 
-fn level(random: &mut Random, steps: &[i64], sign: i64) -> Level {
+fn level(random: &mut Random, drawn: &Drawn) -> Level {
     Level {
         worth: 1,
-        powers: powers(random, steps, sign),
+        powers: powers(random, drawn),
     }
 }
 
 /// P and Q of each slot.
-fn powers(random: &mut Random, steps: &[i64], sign: i64) -> Vec<(i64, i64)> {
+fn powers(random: &mut Random, drawn: &Drawn) -> Vec<(i64, i64)> {
     let power = |&step: &i64| {
         let q = reactive(random, step);
-        (random.within(q..=65_535), sign * q)
+        let least = (q + drawn.ratio - 1) / drawn.ratio;
+        (random.within(least..=65_535), drawn.sign * q)
     };
-    steps.iter().map(power).collect()
+    drawn.steps.iter().map(power).collect()
 }
 
 /// A Q above 0: any, or at or beside a multiple of the step, where the grid value of -Q changes.
@@ -102,7 +118,7 @@ fn size(books: &[Book]) -> String {
 
 /// Whether a call is refused for its budget (12, spent).
 fn budget_exceeded(book: &Book) -> bool {
-    let words = 4 * grid::cells(&grid::slots(book)) as usize;
+    let words = 4 * grid::cells_of(book) as usize;
     let answer = plan(&draw::text(book), &mut vec![0; words], &mut [0; SHEET_MAX]);
     if answer.number != 12 {
         eprintln!("refusal 12 was due, and the answer is {answer:?}");

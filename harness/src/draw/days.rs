@@ -1,6 +1,6 @@
 //! Random days: books in a row, right and refused, and inputs with empty lines anywhere.
 
-use super::{book, heated, longest, longest_views, text, too_many_cells, Bounds};
+use super::{book, heated, longest, longest_views, text, too_many_cells, Bounds, ANY_RATIO};
 use crate::damage::fault;
 use crate::random::Random;
 use crate::reference::book::Book;
@@ -14,6 +14,7 @@ const TINY: Bounds = Bounds {
     loads: 6,
     choices: 200,
     cells: 800,
+    ratios: ANY_RATIO,
 };
 
 /// What the planner can refuse a book with, whatever it is lent.

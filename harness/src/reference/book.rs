@@ -1,8 +1,12 @@
-//! The book and its reader: document 01, "The book", and refusals 1 to 8; with document 02's kinds of load lines.
+//! The book and its reader: document 01, "The book", and refusals 1 to 8; with document 02's kinds of headers and load lines.
 
 use super::must_run;
+use super::ratio::{self, Ratio};
 use super::standing::{self, Standing};
 use super::Refusal;
+
+/// The kinds of headers.
+const HEADER_KINDS: [u64; 2] = [0x01, 0x08];
 
 /// The kinds of load lines.
 const LOAD_KINDS: [u64; 3] = [0x02, 0x06, 0x07];
@@ -10,6 +14,7 @@ const LOAD_KINDS: [u64; 3] = [0x02, 0x06, 0x07];
 #[derive(Clone, Debug, PartialEq, Eq)]
 pub struct Book {
     pub fineness: u64,
+    pub ratio: Ratio,
     pub budget: u64,
     pub limits: Vec<i64>,
     pub loads: Vec<Load>,
@@ -48,21 +53,22 @@ impl Load {
         }
     }
 
-    /// Whether |Q| ≤ P in every slot of every option.
-    pub fn options_within_active(&self) -> bool {
-        let mut options = self.levels.iter();
-        options.all(|level| within_active(&level.powers))
+    /// Whether this holds of P and Q in every slot of every option.
+    pub fn options_all(&self, holds: impl Fn(i64, i64) -> bool) -> bool {
+        let mut pairs = self.levels.iter().flat_map(|level| &level.powers);
+        pairs.all(|&(p, q)| holds(p, q))
     }
 
-    /// Whether |Q| ≤ P in every slot, in every option and standing.
-    pub fn within_active(&self) -> bool {
-        let mut standing = self.standing.iter();
-        self.options_within_active() && standing.all(|powers| within_active(powers))
+    /// Whether this holds of P and Q of standing in every slot, where the line carries them.
+    pub fn standing_all(&self, holds: impl Fn(i64, i64) -> bool) -> bool {
+        self.standing.iter().flatten().all(|&(p, q)| holds(p, q))
     }
-}
 
-fn within_active(powers: &[(i64, i64)]) -> bool {
-    powers.iter().all(|(p, q)| q.abs() <= *p)
+    /// Whether |Q| ≤ r × P in every slot, in every option and standing.
+    pub fn keeps(&self, r: i64) -> bool {
+        let kept = |p, q| ratio::kept(r, p, q);
+        self.options_all(kept) && self.standing_all(kept)
+    }
 }
 
 impl Book {
@@ -113,17 +119,18 @@ pub fn number(digits: &[u8]) -> Option<u64> {
 
 /// The book in these bytes, or the first refusal of 1 to 8.
 pub fn read(bytes: &[u8]) -> Result<Book, Refusal> {
-    read_where(bytes, Load::within_active)
+    read_where(bytes, Load::keeps)
 }
 
-/// The same with another rule for refusal 7, which is given unless this holds of a load.
-pub fn read_where(bytes: &[u8], holds: fn(&Load) -> bool) -> Result<Book, Refusal> {
-    let (line, mut rest) = next_line(bytes, 1, &[0x01])?;
+/// The same with another rule for refusal 7, which is given unless this holds of a load and r.
+pub fn read_where(bytes: &[u8], holds: impl Fn(&Load, i64) -> bool) -> Result<Book, Refusal> {
+    let (line, mut rest) = next_line(bytes, 1, &HEADER_KINDS)?;
     let (load_count, mut book) = header(&line)?;
+    let r = ratio::of(book.ratio);
     for k in 1..=load_count {
         let (line, after) = next_line(rest, k + 1, &LOAD_KINDS)?;
         let load = load(&line, book.limits.len())?;
-        line.refuse_unless(holds(&load), 7)?;
+        line.refuse_unless(holds(&load, r), 7)?;
         book.loads.push(load);
         rest = after;
     }
@@ -171,15 +178,19 @@ fn next_line<'a>(rest: &'a [u8], number: u64, kinds: &[u64]) -> Result<(Line<'a>
 fn header(line: &Line) -> Result<(u64, Book), Refusal> {
     let slots = line.field(2, 2) as usize;
     line.refuse_unless((1..=4).contains(&slots), 4)?;
-    line.refuse_unless(line.digits.len() == 16 + 4 * slots, 5)?;
+    let more = ratio::digits(line.field(0, 2));
+    line.refuse_unless(line.digits.len() == 16 + more + 4 * slots, 5)?;
     let load_count = line.field(4, 2);
     let fineness = line.field(6, 2);
+    let ratio = (more > 0).then(|| line.field(8, more) as i64);
     let in_range = (1..=24).contains(&load_count) && (1..=64).contains(&fineness);
-    line.refuse_unless(in_range, 6)?;
+    line.refuse_unless(in_range && ratio.is_none_or(|r| ratio::RANGE.contains(&r)), 6)?;
+    let budget = 8 + more;
     let book = Book {
         fineness,
-        budget: line.field(8, 8),
-        limits: (0..slots).map(|s| line.field(16 + 4 * s, 4) as i64).collect(),
+        ratio,
+        budget: line.field(budget, 8),
+        limits: (0..slots).map(|s| line.field(budget + 8 + 4 * s, 4) as i64).collect(),
         loads: Vec::new(),
     };
     Ok((load_count, book))

@@ -1,6 +1,7 @@
-//! Steps, grid values, cells and the admission of a slot: document 01, "Choice, sums and grid".
+//! Steps, grid values, cells and the admission of a slot: document 01, "Choice, sums and grid"; M-108: the cells are by r.
 
 use super::book::Book;
+use super::ratio;
 
 /// Up to this e the admission of a slot is decided by trying every pair of whole numbers.
 const SEARCHED: i64 = 12;
@@ -31,9 +32,9 @@ impl Slot {
         power.div_euclid(self.step)
     }
 
-    /// (R + 1) × (2R + N + 1).
-    pub fn pairs(&self) -> u128 {
-        ((self.bound + 1) * (2 * self.bound + self.loads + 1)) as u128
+    /// How many grid pairs it has.
+    fn pairs(&self, r: i64) -> u128 {
+        ratio::pairs(r, self.bound, self.loads) as u128
     }
 
     /// Whether some (p, q) with aL ≤ p ≤ aL + e and bL ≤ q ≤ bL + e has p² + q² ≤ S².
@@ -70,9 +71,14 @@ pub fn slots(book: &Book) -> Vec<Slot> {
     book.limits.iter().map(slot).collect()
 }
 
-/// The product over the slots; below 2^98, so it fits.
-pub fn cells(slots: &[Slot]) -> u128 {
-    slots.iter().map(Slot::pairs).product()
+/// The product over the slots; below 2^104, so it fits.
+pub fn cells(slots: &[Slot], r: i64) -> u128 {
+    slots.iter().map(|slot| slot.pairs(r)).product()
+}
+
+/// The cells of a book.
+pub fn cells_of(book: &Book) -> u128 {
+    cells(&slots(book), ratio::of(book.ratio))
 }
 
 #[cfg(test)]

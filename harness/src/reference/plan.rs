@@ -32,21 +32,26 @@ type Rank = (u64, Reverse<u64>);
 /// By going through every choice, as the text has it.
 pub fn by_enumeration(book: &Book) -> Planned {
     let slots = slots(book);
-    let mut best: Option<(Rank, Vec<usize>)> = None;
-    each_choice(book, book.loads.len(), |choice| {
-        let rank = (book.worth(choice), Reverse(code(choice)));
-        let better = best.as_ref().is_none_or(|(held, _)| rank > *held);
-        if better && admitted(&slots, &pairs(book, &slots, choice)) {
-            best = Some((rank, choice.to_vec()));
-        }
-    });
     let trials = lists_met(book)
         .iter()
         .zip(&book.loads)
         .map(|(lists, load)| lists * must_run::factor(load))
         .sum();
-    let plan = best.map(|((worth, _), choice)| Plan { choice, worth });
+    let plan = best_where(book, |choice| admitted(&slots, &pairs(book, &slots, choice)));
     Planned { plan, trials }
+}
+
+/// The best of the choices of which this holds.
+pub fn best_where(book: &Book, holds: impl Fn(&[usize]) -> bool) -> Option<Plan> {
+    let mut best: Option<(Rank, Vec<usize>)> = None;
+    each_choice(book, book.loads.len(), |choice| {
+        let rank = (book.worth(choice), Reverse(code(choice)));
+        let better = best.as_ref().is_none_or(|(held, _)| rank > *held);
+        if better && holds(choice) {
+            best = Some((rank, choice.to_vec()));
+        }
+    });
+    best.map(|((worth, _), choice)| Plan { choice, worth })
 }
 
 /// Goes through the choices of the first loads.
@@ -90,7 +95,7 @@ fn admitted(slots: &[Slot], pairs: &[(i64, i64)]) -> bool {
     slots.iter().zip(pairs).all(|(slot, &(a, b))| slot.admits(a, b))
 }
 
-/// Whether this choice is admitted.
+/// Whether this choice is admitted, or one of the first loads alone.
 pub fn admits(book: &Book, choice: &[usize]) -> bool {
     let slots = slots(book);
     admitted(&slots, &pairs(book, &slots, choice))

@@ -1,4 +1,4 @@
-//! What the tests of `standing` and `must_run` share.
+//! What the tests of `standing`, `must_run` and `ratio` share.
 
 use super::Case;
 

@@ -36,6 +36,7 @@ impl Load {
 pub struct Book {
     pub slots: usize,
     pub fineness: i64,
+    pub ratio: i64,
     pub budget: u64,
     pub limits: [i64; SLOTS],
     loads: [Load; LOADS],
@@ -84,13 +85,13 @@ impl Fields<'_> {
             .fold(0, |number, &byte| number << 4 | u64::from(value(byte)))
     }
 
-    /// Reads P and Q of each slot; gives whether all have |Q| ≤ P.
-    fn powers(&mut self, level: &mut Level, slots: usize) -> bool {
+    /// Reads P and Q of each slot; gives whether all have |Q| ≤ r × P.
+    fn powers(&mut self, level: &mut Level, book: &Book) -> bool {
         let mut kept = true;
-        for slot in 0..slots {
+        for slot in 0..book.slots {
             level.active[slot] = self.next(4) as i64;
             level.reactive[slot] = i64::from(self.next(4) as u16 as i16);
-            kept &= level.reactive[slot].abs() <= level.active[slot];
+            kept &= level.reactive[slot].abs() <= book.ratio * level.active[slot];
         }
         kept
     }
@@ -109,11 +110,11 @@ impl Fields<'_> {
 /// The book in these bytes, or the first refusal of 1 to 8.
 pub fn read(bytes: &[u8]) -> Result<Book, Refusal> {
     let mut rest = bytes;
-    let (_, fields) = next_line(&mut rest, 1, &[0x01])?;
-    let mut book = header(fields)?;
+    let (kind, fields) = next_line(&mut rest, 1, &[0x01, 0x08])?;
+    let mut book = header(fields, kind)?;
     for k in 0..book.count {
         let (kind, fields) = next_line(&mut rest, k as u64 + 2, &[0x02, 0x06, 0x07])?;
-        book.loads[k] = load(fields, kind, book.slots)?;
+        book.loads[k] = load(fields, kind, &book)?;
     }
     let end = Fields {
         digits: rest,
@@ -141,17 +142,23 @@ fn next_line<'a>(rest: &mut &'a [u8], line: u64, kinds: &[u64]) -> Result<(u64, 
     Ok((kind, fields))
 }
 
-fn header(mut fields: Fields) -> Result<Book, Refusal> {
+fn header(mut fields: Fields, kind: u64) -> Result<Book, Refusal> {
+    let states_ratio = kind == 0x08;
     let mut book = Book {
         slots: fields.next(2) as usize,
+        ratio: 1,
         ..Book::default()
     };
     fields.refuse_unless((1..=SLOTS).contains(&book.slots), 4)?;
-    fields.refuse_unless(fields.digits.len() == 12 + 4 * book.slots, 5)?;
+    let ratio = if states_ratio { 2 } else { 0 };
+    fields.refuse_unless(fields.digits.len() == 12 + ratio + 4 * book.slots, 5)?;
     book.count = fields.next(2) as usize;
     book.fineness = fields.next(2) as i64;
+    if states_ratio {
+        book.ratio = fields.next(2) as i64;
+    }
     let in_range = (1..=LOADS).contains(&book.count) && (1..=64).contains(&book.fineness);
-    fields.refuse_unless(in_range, 6)?;
+    fields.refuse_unless(in_range && (1..=3).contains(&book.ratio), 6)?;
     book.budget = fields.next(8);
     for limit in &mut book.limits[..book.slots] {
         *limit = fields.next(4) as i64;
@@ -159,8 +166,8 @@ fn header(mut fields: Fields) -> Result<Book, Refusal> {
     Ok(book)
 }
 
-fn load(mut fields: Fields, kind: u64, slots: usize) -> Result<Load, Refusal> {
-    let draws_standing = kind == 0x06;
+fn load(mut fields: Fields, kind: u64, book: &Book) -> Result<Load, Refusal> {
+    let (draws_standing, slots) = (kind == 0x06, book.slots);
     let options = fields.next(2) as usize;
     fields.refuse_unless((1..=3).contains(&options), 4)?;
     let standing = if draws_standing { 8 * slots } else { 0 };
@@ -172,11 +179,11 @@ fn load(mut fields: Fields, kind: u64, slots: usize) -> Result<Load, Refusal> {
     };
     let mut kept = true;
     if draws_standing {
-        kept &= fields.powers(&mut load.levels[0], slots);
+        kept &= fields.powers(&mut load.levels[0], book);
     }
     for level in &mut load.levels[1..=options] {
         level.worth = fields.next(4);
-        kept &= fields.powers(level, slots);
+        kept &= fields.powers(level, book);
     }
     fields.refuse_unless(kept, 7)?;
     Ok(load)

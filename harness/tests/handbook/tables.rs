@@ -1,4 +1,4 @@
-//! The handbook's tables of cells, fineness and relay settings, computed anew; the first two by the reference.
+//! The handbook's tables of cells, fineness and relay settings, computed anew; those of cells and fineness by the reference.
 
 use harness::reference::grid::{cells, Slot};
 use harness::reference::MOST_CELLS;
@@ -10,7 +10,7 @@ pub struct Table {
     row: fn(&[u64]) -> Option<String>,
 }
 
-pub const TABLES: [Table; 3] = [
+pub const TABLES: [Table; 5] = [
     Table {
         name: "cells",
         head: "| T | N | d | cells, R = Nd |",
@@ -20,6 +20,16 @@ pub const TABLES: [Table; 3] = [
         name: "fineness",
         head: "| N | T = 1 | T = 2 |",
         row: fineness_row,
+    },
+    Table {
+        name: "cells by r",
+        head: "| T | N | d | r | cells, R = Nd |",
+        row: ratio_cells_row,
+    },
+    Table {
+        name: "fineness by r",
+        head: "| N | r | T = 1 | T = 2 |",
+        row: ratio_fineness_row,
     },
     Table {
         name: "relay",
@@ -58,17 +68,23 @@ impl Table {
 
 fn cells_row(numbers: &[u64]) -> Option<String> {
     let [slots, loads, fineness] = first(numbers)?;
-    let [least, most] = cells_of(slots, loads, fineness).map(size_columns);
+    let [least, most] = cells_of(slots, loads, fineness, 1).map(size_columns);
     Some(format!("| {slots} | {loads} | {fineness} | {least} | {most} |"))
+}
+
+fn ratio_cells_row(numbers: &[u64]) -> Option<String> {
+    let [slots, loads, fineness, r] = first(numbers)?;
+    let [least, most] = cells_of(slots, loads, fineness, r).map(size_columns);
+    Some(format!("| {slots} | {loads} | {fineness} | {r} | {least} | {most} |"))
 }
 
 /// The cells of T live slots of the same size with R = N × d, and with the largest R, 2 × N × d - 1. Where S is under
 /// 2 × N × d, the step is 1 and R is S.
-fn cells_of(slots: u64, loads: u64, fineness: u64) -> [u128; 2] {
+fn cells_of(slots: u64, loads: u64, fineness: u64, r: u64) -> [u128; 2] {
     let least = loads * fineness;
     [least, 2 * least - 1].map(|limit| {
         let slot = Slot::new(limit as i64, loads as usize, fineness);
-        cells(&vec![slot; slots as usize])
+        cells(&vec![slot; slots as usize], r as i64)
     })
 }
 
@@ -83,12 +99,22 @@ fn size_columns(cells: u128) -> String {
 
 fn fineness_row(numbers: &[u64]) -> Option<String> {
     let [loads] = first(numbers)?;
+    Some(format!("| {loads} |{}", fineness_columns(loads, 1)))
+}
+
+fn ratio_fineness_row(numbers: &[u64]) -> Option<String> {
+    let [loads, r] = first(numbers)?;
+    Some(format!("| {loads} | {r} |{}", fineness_columns(loads, r)))
+}
+
+/// The largest d for each number of live slots.
+fn fineness_columns(loads: u64, r: u64) -> String {
     let largest = |slots: u64, size: usize| {
-        let fits = |&d: &u64| cells_of(slots, loads, d)[size] <= MOST_CELLS;
+        let fits = |&d: &u64| cells_of(slots, loads, d, r)[size] <= MOST_CELLS;
         (1..=64).rev().find(fits).map_or("-".into(), |d| d.to_string())
     };
     let columns = (1..=4).map(|slots| format!(" {} / {} |", largest(slots, 0), largest(slots, 1)));
-    Some(format!("| {loads} |{}", columns.collect::<String>()))
+    columns.collect()
 }
 
 /// The factor 1 + 3/(2d), and S = X × 2d / (2d + 3) for both settings X.
