@@ -1,5 +1,5 @@
-// Runs the planner, the quick planner, the sheet reader, the charge, the order of starting, the views and the day on fixed books and sheets, and prints
-// each answer. Every refusal is reached: 1 to 8 with its line, and 9 to 19. The stored output is what documents 01 and 02 say.
+// Runs the planner, the strict planner, the quick planner, the sheet reader, the charge, the order of starting, the views and the day on fixed books and
+// sheets, and prints each answer. Every refusal is reached: 1 to 8 with its line, and 9 to 20. The stored output is what documents 01 and 02 say.
 use libc::STDOUT_FILENO;
 use model::Answer;
 
@@ -38,6 +38,11 @@ fn quick_case(name: &[u8], book: &[u8], sheet: &mut [u8]) {
 fn plan_case(name: &[u8], book: &[u8], work: &mut [u64], sheet: &mut [u8]) {
     let a = planner::plan(book, work, sheet);
     print_answer(name, b": plan, number ", a, sheet);
+}
+
+fn strict_case(name: &[u8], book: &[u8], work: &mut [u64], sheet: &mut [u8]) {
+    let a = strict::plan_strict(book, work, sheet);
+    print_answer(name, b": strict, number ", a, sheet);
 }
 
 // The sheet reader on a book and a sheet.
@@ -225,6 +230,33 @@ fn ratio_plans() {
     );
 }
 
+// The strict planner: a book on which the plain one goes above the limit; and one of which the compared choice does, though another with its pairs fits, and
+// the same with a trial less in the budget.
+fn strict_plans() {
+    let mut work = [77u64; 8192];
+    let mut sheet = [46u8; 60];
+    let mill = b"010103080000006414B9\n0201003C08A1060A\n0201002806E70450\n0201001904500373\n";
+    plan_case(b"above", mill, &mut work, &mut sheet);
+    strict_case(b"never above", mill, &mut work, &mut sheet);
+    let drum = b"01010102000000020064\n0702000100640000000200950000\n";
+    plan_case(b"same pairs", drum, &mut work, &mut sheet);
+    strict_case(b"same pairs", drum, &mut work, &mut sheet);
+    let spent = b"01010102000000010064\n0702000100640000000200950000\n";
+    strict_case(b"spent", spent, &mut work, &mut sheet);
+}
+
+// A word too few; a byte too few; and d = 1, with too few of both.
+fn refused_strictly() {
+    let mut cramped = [77u64; 71];
+    let mut work = [77u64; 72];
+    let mut sheet = [46u8; 43];
+    let drum = b"01010102000000020064\n0702000100640000000200950000\n";
+    strict_case(b"cramped", drum, &mut cramped, &mut sheet);
+    strict_case(b"no sheet", drum, &mut work, &mut sheet);
+    let coarse = b"01010101000000020064\n0702000100640000000200950000\n";
+    strict_case(b"too coarse", coarse, &mut cramped, &mut sheet);
+}
+
 // The sheet reader on document 01's example and a sheet.
 fn example_case(name: &[u8], sheet: &[u8]) {
     reader_case(
@@ -396,6 +428,8 @@ fn main() {
     standing_plans();
     must_run_plans();
     ratio_plans();
+    strict_plans();
+    refused_strictly();
     charges();
     orders();
     views();

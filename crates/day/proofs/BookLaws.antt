@@ -9,6 +9,7 @@ use lib.ListN.{length, getD, take, set}
 use lib.Seq.{take-suc, length-take-le}
 use Rattle.model.specs.Bounds.{mostSheet}
 use Rattle.model.specs.Refusals.{andThen}
+use Rattle.model.specs.Grid.{plan}
 use Rattle.model.specs.Calls.{planSheet, plannerResult, freeFor, freeWords}
 use Rattle.model.specs.Program.{printed}
 use Rattle.model.specs.Day.{bookOutput}
@@ -30,7 +31,7 @@ copied-more bytes out out′ i e h k n =
 
 pub same-output : (words : ℕ) (book : List ℕ) (room : ℕ) → mostSheet ≤ room → printed (plannerResult book words room) ≡ bookOutput words book
 unfolding plannerResult
-same-output words book room h = ap (λ x. printed (andThen x planSheet)) (long-suffices words book room h)
+same-output words book room h = ap (λ x. printed (andThen x (planSheet plan))) (long-suffices words book room h)
 
 pub same-free : (words : ℕ) (book : List ℕ) (room : ℕ) → mostSheet ≤ room → freeWords book words room ≡ freeWords book words mostSheet
 unfolding freeWords

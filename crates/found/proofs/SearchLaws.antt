@@ -15,6 +15,7 @@ use Rattle.model.specs.Lists.{Every}
 use Rattle.model.specs.Book.{Settings}
 use Rattle.model.specs.Choice.{Choice, codeOf}
 use Rattle.model.specs.Grid.{Slot, slotsOf, plan}
+use Rattle.model.specs.Strict.{strictPlan}
 use Rattle.model.specs.Trials.{cells, neededWords, WordsKept, trials, trialsUpto}
 use Rattle.model.specs.Valid.{Labelled, SettingSmall, SettingBelow, SlotsFor}
 use Rattle.model.specs.Values.{Held, problemOf}
@@ -23,6 +24,7 @@ use Rattle.model.proofs.ListLaws.{every-mem, every-of-mem}
 use Rattle.model.proofs.NumberLaws.{number-small}
 use Rattle.model.proofs.AdmissionLaws.{slots-for}
 use Rattle.model.proofs.RecurrenceLaws.{key?}
+use Rattle.model.proofs.ComparedLaws.{cell-coded}
 use Rattle.model.proofs.HeldLaws.{held-valid, held-count, held-few, held-slots}
 use Rattle.table.specs.declared.Cell.{Cell}
 use Rattle.table.specs.Table.{keyOf, keyIf}
@@ -31,11 +33,13 @@ use Rattle.grid.specs.Geometry.{GridIs}
 use Rattle.grid.proofs.SlotLaws.{slots-length, slot-at, laid}
 use Rattle.stretch.specs.declared.LoadMoves.{LoadMoves}
 use Rattle.moves.specs.Moves.{movesOf, LoadIs}
-use Rattle.search.specs.Search.{Modelled, Places, Searched, trialsOf}
+use Rattle.search.specs.Search.{Modelled, LayerIs, Places, Searched, trialsOf}
 use Rattle.admits.specs.Admits.{SlotsHeld}
-use Rattle.scan.specs.Scan.{bestOfLayer}
-use Rattle.scan.proofs.ScanLaws.{scan-finds}
-use Rattle.found.specs.Found.{Found}
+use Rattle.scan.specs.declared.Test.{Test}
+use Rattle.scan.specs.declared.Test.the-variants.{Admission, TrueSums}
+use Rattle.scan.specs.Scan.{testOf, bestOfLayer, LayerCoded}
+use Rattle.scan.proofs.ScanLaws.{last-cell, scan-plan, scan-strict}
+use Rattle.found.specs.Found.{planBy, Found}
 
 -- the last layer lies in the work area
 pub layer-room : {ws ws′ lows highs : List ℕ} {grid : Grid} {cur : ℕ} → Places ws ws′ lows highs grid cur → 4 * grid .cells ≤ length ws
@@ -125,32 +129,54 @@ module _ (v : Book) (held : Held v) (grid : Grid) (is : GridIs (slotsOf (problem
   unfolding trials model
   trials-are = ap (trialsUpto (slotsOf (problemOf v)) (problemOf v .loads)) (held-count v held)
 
-  -- over the budget
-  pub found-over : (ws lows highs : List ℕ) (cur ts : ℕ) → Searched ws lows highs grid (v .count) moves model (v .budget) cur ts → v .budget < ts
-      → (admitted : Bool) (code : ℕ) → Found (problemOf v) (record { within = false; trials = ts; admitted = admitted; code = code })
-  unfolding problemOf
-  found-over ws lows highs cur ts s h admitted code =
-      record {
-        over = λ e. subst (λ x. v .budget < x) trials-are (s .over h);
-        enough = λ e. absurd (false≢true e);
-        counted = λ e. absurd (false≢true e);
-        missing = λ e. absurd (false≢true e);
-        planned = λ e. absurd (false≢true e);
-      }
+  -- each cell of the last layer holds the code of one of the book's choices
+  pub layer-coded : (ws lows highs : List ℕ) (cur : ℕ) → LayerIs ws lows highs grid (v .count) moves model (v .count) cur
+      → LayerCoded (problemOf v) ws lows highs grid cur
+  unfolding model
+  layer-coded ws lows highs cur layer row col l k key e =
+      let x = cell-coded (slotsOf (problemOf v)) (problemOf v .loads) (row * grid .width + col) key (sym (last-cell model ws lows highs cur layer row col l k) ∙ e) in
+      record { choice = x .0; of-book = x .1; is = ap (λ (y : Key). y .code) (sym (x .2)) }
 
-  -- within the budget: the trials, and the plan
-  pub found-within : (ws lows highs : List ℕ) (cur ts : ℕ) (r : Cell) → Searched ws lows highs grid (v .count) moves model (v .budget) cur ts → ts ≤ v .budget
-      → ((h : SlotsHeld grid (v .count) (v .limits)) → keyOf r ≡ bestOfLayer (h .laid .slots) ws lows highs grid cur)
-      → Found (problemOf v) (record { within = true; trials = ts; admitted = not (eqb (r .worth) 0); code = r .code })
-  unfolding problemOf plan model laid scanned
-  found-within ws lows highs cur ts r s h found =
-      let w = s .within h in
-      let t : ts ≡ trials (problemOf v) = w .0 ∙ trials-are in
-      let k = scan-finds model ws lows highs cur r (scanned v held grid is) refl (w .1) found in
-      record {
-        over = λ e. absurd (false≢true (sym e));
-        enough = λ e. subst (λ x. x ≤ v .budget) t h;
-        counted = λ e. t;
-        missing = λ e f. cell-none r (plan (problemOf v)) k (eqb-true (r .worth) 0 (not-false (eqb (r .worth) 0) f));
-        planned = λ e f. cell-some r (plan (problemOf v)) k (λ z. false≢true (sym (not-true (eqb (r .worth) 0) f) ∙ eq-eqb (r .worth) 0 z));
-      }
+  -- the best of its cells that pass a planner's test is that planner's plan
+  layer-plan : (ws lows highs : List ℕ) (cur : ℕ) → LayerIs ws lows highs grid (v .count) moves model (v .count) cur
+      → (test : Test) → bestOfLayer (testOf test (slotsOf (problemOf v)) (problemOf v)) ws lows highs grid cur ≡ key? (planBy test (problemOf v))
+  unfolding plan strictPlan model
+  layer-plan ws lows highs cur layer Admission = scan-plan model ws lows highs cur layer
+  layer-plan ws lows highs cur layer TrueSums = scan-strict model ws lows highs cur layer (problemOf v) (held-valid v held) refl refl
+
+  module _ (test : Test) where
+    -- over the budget
+    pub found-over : (ws lows highs : List ℕ) (cur ts : ℕ) → Searched ws lows highs grid (v .count) moves model (v .budget) cur ts → v .budget < ts
+        → (planned : Bool) (code : ℕ) → Found test (problemOf v) (record { within = false; trials = ts; planned = planned; code = code })
+    unfolding problemOf
+    found-over ws lows highs cur ts s h planned code =
+        record {
+          over = λ e. subst (λ x. v .budget < x) trials-are (s .over h);
+          enough = λ e. absurd (false≢true e);
+          counted = λ e. absurd (false≢true e);
+          missing = λ e. absurd (false≢true e);
+          planned = λ e. absurd (false≢true e);
+        }
+
+    module _ (ws lows highs : List ℕ) (cur : ℕ) (r : Cell)
+        (found : (h : SlotsHeld grid (v .count) (v .limits)) → keyOf r ≡ bestOfLayer (testOf test (h .laid .slots) (problemOf v)) ws lows highs grid cur) where
+      -- what `scan` finds in the layer that `search` leaves
+      scan-finds : LayerIs ws lows highs grid (v .count) moves model (v .count) cur → keyOf r ≡ key? (planBy test (problemOf v))
+      unfolding model laid scanned
+      scan-finds layer = found (scanned v held grid is) ∙ layer-plan ws lows highs cur layer test
+
+      -- within the budget: the trials, and the plan
+      pub found-within : (ts : ℕ) → Searched ws lows highs grid (v .count) moves model (v .budget) cur ts → ts ≤ v .budget
+          → Found test (problemOf v) (record { within = true; trials = ts; planned = not (eqb (r .worth) 0); code = r .code })
+      unfolding problemOf
+      found-within ts s h =
+          let w = s .within h in
+          let t : ts ≡ trials (problemOf v) = w .0 ∙ trials-are in
+          let k = scan-finds (w .1) in
+          record {
+            over = λ e. absurd (false≢true (sym e));
+            enough = λ e. subst (λ x. x ≤ v .budget) t h;
+            counted = λ e. t;
+            missing = λ e f. cell-none r (planBy test (problemOf v)) k (eqb-true (r .worth) 0 (not-false (eqb (r .worth) 0) f));
+            planned = λ e f. cell-some r (planBy test (problemOf v)) k (λ z. false≢true (sym (not-true (eqb (r .worth) 0) f) ∙ eq-eqb (r .worth) 0 z));
+          }

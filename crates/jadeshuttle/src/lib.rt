@@ -1,4 +1,4 @@
-// The public calls for programs in C and other languages: the planner, the quick planner, the sheet reader, the charge, the
+// The public calls for programs in C and other languages: the planner, the strict planner, the quick planner, the sheet reader, the charge, the
 // order of starting, what the mill and the supply company see, and a day's books at once.
 use model::Answer;
 use model::ChargeAnswer;
@@ -13,6 +13,7 @@ ghost use Rattle.model.specs.Calls.{plannerResult, freeWords};
 ghost use Rattle.model.specs.Quick.{quickResult};
 ghost use Rattle.model.specs.SheetReader.{readerResult, sheetAnswerOf};
 ghost use Rattle.model.specs.Demand.{Answered, Demand3};
+ghost use Rattle.model.specs.Strict.{strictResult, strictFree, StrictAnswered, NeverAbove, NoMargin};
 ghost use Rattle.model.specs.Charge.{chargeResult, chargeAnswerOf};
 ghost use Rattle.model.specs.Order.{orderResult, WritesOrder, OrderKept};
 ghost use Rattle.model.specs.Views.{millResult, supplyResult, NothingElse};
@@ -28,6 +29,18 @@ pub extern "C" fn jadeshuttle_plan(book: &[u8], work: &mut [u64], sheet: &mut [u
     ensures demand { λ r. ⌜ (r .number ≡ 0 → Demand3 (now (book .entry)) (now (sheet .exit))) ⌝ }
 {
     planner::plan(book, work, sheet)
+}
+
+// The strict planner: the sheet of the strict plan, which never goes above a limit, or the first refusal of 1 to 8, 20, 9 to 12 and 17.
+#[no_mangle]
+pub extern "C" fn jadeshuttle_plan_strict(book: &[u8], work: &mut [u64], sheet: &mut [u8]) -> Answer
+    ensures result { λ r. ⌜ Writes (strictResult (now (book .entry)) (length (now (work .entry))) (length (now (sheet .entry)))) (now (sheet .entry)) (now (sheet .exit)) r ⌝ }
+    ensures words { λ _. ⌜ WordsKept (strictFree (now (book .entry)) (length (now (work .entry))) (length (now (sheet .entry)))) (now (work .entry)) (now (work .exit)) ⌝ }
+    ensures answered { λ r. ⌜ StrictAnswered (now (book .entry)) (length (now (work .entry))) (length (now (sheet .entry))) (r .number) ⌝ }
+    ensures keeps { λ r. ⌜ (r .number ≡ 0 → NeverAbove (now (book .entry)) (length (now (work .entry))) (length (now (sheet .entry))) (now (sheet .exit))) ⌝ }
+    ensures margin { λ r. ⌜ (r .number ≡ 17 → NoMargin (now (book .entry))) ⌝ }
+{
+    strict::plan_strict(book, work, sheet)
 }
 
 // The quick planner: refusals 1 to 8, 11 and 17, or the quick sheet.

@@ -1,4 +1,4 @@
-// Whether the sums of a choice keep the limits.
+// Whether the sums of a choice keep the limits; and of the choice that has a code.
 use model::Book;
 use sums::Sums;
 ghost use mathlib.Core.Path.{_≡_};
@@ -9,7 +9,7 @@ ghost use Rattle.model.specs.Lists.{Every};
 ghost use Rattle.model.specs.Choice.{Choice, square};
 ghost use Rattle.model.specs.Grid.{slotsOf, keepsLimits};
 ghost use Rattle.model.specs.Valid.{SettingSmall};
-ghost use Rattle.model.specs.Values.{Held, problemOf};
+ghost use Rattle.model.specs.Values.{Held, IsCode, choiceCoded, problemOf};
 ghost use Rattle.sums.specs.Sums.{sumsValue, SumsSmall};
 
 // P² + Q² ≤ S², where q is Q + zero.
@@ -37,4 +37,14 @@ pub fn keeps(sums: Sums, book: Book) -> bool
         s += 1;
     }
     true
+}
+
+// Whether the choice of a code keeps every limit.
+pub fn keeps_code(book: Book, code: u64) -> bool
+    requires { ⌜ Held book ⌝ }
+    requires { ⌜ IsCode (problemOf book) code ⌝ }
+    ensures { λ r. ⌜ r ≡ keepsLimits (slotsOf (problemOf book)) (choiceCoded (problemOf book) code) ⌝ }
+{
+    let picks = sums::picks_of(code, book.count);
+    keeps(sums::sums_of(book, picks), book)
 }

@@ -1,6 +1,6 @@
 -- The proved table: document 01's starred cases ("Trials at the bench"), the ends of M-102's range, two overloads near M-106's bound, charges (M-100),
 -- orders of starting (M-101), views (M-103), standing loads that draw (M-104), loads that must run (M-105), a day's books (M-107), poorer power factors
--- (M-108), and edges where a near mistake shows, as one table of facts about the definitions, with one statement covering it. Star n is the n-th star of document 01.
+-- (M-108), the strict planner (M-109), and edges where a near mistake shows, as one table of facts about the definitions, with one statement covering it. Star n is the n-th star of document 01.
 -- Assumes nothing.
 use mathlib.Core.Path.{_≡_, refl, ap₂, _∙_}
 use mathlib.Core.Bool.{Bool, true, false, _&&_}
@@ -34,6 +34,7 @@ use Rattle.model.specs.SheetReader.{sheetChoice, sheetData, readerResult
 use Rattle.model.specs.Charge.{rounded, chargeOf, choiceCharge, sheetCharge, chargeResult, chargeAnswerOf}
 use Rattle.model.specs.Order.{Running, starting, runningMask, andNot, startCount, wrongNames, someBlocked, left, ready, startNext, startedAfter, startOrder, OrderData, loadsOrder, sheetsOrder, orderResult}
 use Rattle.model.specs.Day.{booksFrom, dayOutput, dayRules, dayOf, dayResult, dayFreeWords}
+use Rattle.model.specs.Strict.{bestKeeping, strictPlan, strictBook, strictResult, strictFree}
 use Rattle.model.specs.Views.{accepted, shown, runningLoads, numberAndLevel, millLine, millResult, supplyView, supplyResult}
 use Rattle.model.proofs.ListLaws.{all-join}
 
@@ -72,14 +73,16 @@ pub data Row : Type 0 where
   orders : List ℕ → List ℕ → List ℕ → ℕ → List ℕ → Row
   -- the same of a book, the running sheet and the new one
   ordersFrom : List ℕ → List ℕ → List ℕ → List ℕ → ℕ → List ℕ → Row
-  -- the mill's view of a book and a sheet, the supply company's, or the quick planner's sheet for the book, in a buffer of so many bytes: the answer's five
-  -- numbers, and what is written, printed as the program prints a sheet
+  -- the mill's view of a book and a sheet, the supply company's, or the quick or the strict planner's sheet for the book, in a buffer of so many bytes: the
+  -- answer's five numbers, and what is written, printed as the program prints a sheet
   shows : (List ℕ → List ℕ → ℕ → Result Output) → List ℕ → List ℕ → ℕ → List ℕ → String → Row
   -- the day of these bytes, with a work area of so many words and a buffer of so many bytes: the answer's five numbers, and its output, or of a refusal
   -- the line that the program would print
   days : List ℕ → ℕ → ℕ → List ℕ → List ℕ → Row
   -- the day of these bytes, with a work area of so many words, may change so many of them, the first
   frees : List ℕ → ℕ → ℕ → Row
+  -- the strict planner, for a book, a work area of so many words and a buffer of so many bytes, may change so many of the words
+  strictFrees : String → ℕ → ℕ → ℕ → Row
 
 abbrev printsFor : String → String → Bool
 printsFor book out = sameLists eqb (programOutput (bytesOf book)) (bytesOf out)
@@ -156,6 +159,7 @@ holds (shows view book sheet room numbers out) =
 holds (days input words room numbers out) =
     sameLists eqb (answerNumbers (answerOf (dayResult input words room))) numbers && sameLists eqb (printed (dayResult input words room)) out
 holds (frees input words free) = eqb (dayFreeWords input words) free
+holds (strictFrees book words room free) = eqb (strictFree (bytesOf book) words room) free
 
 -- two slots, and one load with P = 20 and P = 4; and the sheet on which it runs
 abbrev halvesBook : List ℕ
@@ -487,6 +491,69 @@ ratioRows =
     ∷ prints "08010304010000000D000A\n0201000500050005\n020100050004FFFC\n0201000400040000\n" "FF0C0000\n"
     ∷ []
 
+-- M-109: the strict planner, with a work area of so many words and in a buffer of so many bytes; and as the program would call it
+abbrev strictIn : ℕ → List ℕ → List ℕ → ℕ → Result Output
+strictIn words book sheet room = strictResult book words room
+
+abbrev strictly : String → List ℕ → String → Row
+strictly book numbers out = shows (strictIn 6144) (bytesOf book) [] 4096 numbers out
+
+-- d = 2 and S = 100: one load that must run, at (100, 0) with worth 1 or at (149, 0) with worth 2. L is 50, and both have a = 2
+abbrev drum : String
+drum = "01010102000000640064\n0702000100640000000200950000\n"
+
+-- examples/close.book: three loads, of which the plain planner runs all, at 116.7 % of S
+abbrev close : String
+close = "010103080000006414B9\n0201003C08A1060A\n0201002806E70450\n0201001904500373\n"
+
+-- d = 1 and no trial in the budget, and with r = 3 over the bound on cells
+abbrev coarse : String
+coarse = "0804020103000000000005000500050005\n0201000100010000000100000001000000010000\n0201000100010000000100000001000000010000\n"
+
+-- of the strict planner (M-109)
+unfoldable pub strictRows : List Row
+strictRows =
+    -- d = 1: 20 comes before 9 to 12, and after 7 and 8; with d = 2 it is 9
+    shows (strictIn 0) (bytesOf coarse) [] 0 (20 ∷ 0 ∷ 0 ∷ 0 ∷ 0 ∷ []) "FF140000\n"
+    ∷ shows (strictIn 0) (bytesOf "0804020203000000000005000500050005\n0201000100010000000100000001000000010000\n0201000100010000000100000001000000010000\n") [] 0 (9 ∷ 0 ∷ 0 ∷ 0 ∷ 0 ∷ []) "FF090000\n"
+    ∷ shows (strictIn 0) (bytesOf coarse ++ lf) [] 0 (8 ∷ 4 ∷ 0 ∷ 0 ∷ 0 ∷ []) "FF080004\n"
+    ∷ shows (strictIn 0) (bytesOf "01010101000000640064\n020100010004FFFB\n") [] 0 (7 ∷ 2 ∷ 0 ∷ 0 ∷ 0 ∷ []) "FF070002\n"
+    -- nothing else is wrong with it
+    ∷ strictly "01010101000000640064\n0201000100040004\n" (20 ∷ 0 ∷ 0 ∷ 0 ∷ 0 ∷ []) "FF140000\n"
+    -- the compared choice is over the limit: 17, though the other one with the same pairs fits; the plain planner runs it at (149, 0)
+    ∷ strictly drum (17 ∷ 0 ∷ 0 ∷ 0 ∷ 0 ∷ []) "FF110000\n"
+    ∷ prints drum "04000000020000000202\n0500000095000000000064\n"
+    -- with one trial less in the budget: 12 comes before 17
+    ∷ strictly "01010102000000010064\n0702000100640000000200950000\n" (12 ∷ 0 ∷ 0 ∷ 0 ∷ 0 ∷ []) "FF0C0000\n"
+    -- where the one that fits is worth more it is the compared one; where both are worth as much, the one of smaller code is
+    ∷ strictly "01010102000000640064\n0702000200640000000100950000\n" (0 ∷ 0 ∷ 44 ∷ 2 ∷ 2 ∷ []) "04000000020000000201\n0500000064000000000064\n"
+    ∷ strictly "01010102000000640064\n0702000100640000000100950000\n" (0 ∷ 0 ∷ 44 ∷ 1 ∷ 2 ∷ []) "04000000010000000201\n0500000064000000000064\n"
+    ∷ strictly "01010102000000640064\n0702000100950000000100640000\n" (17 ∷ 0 ∷ 0 ∷ 0 ∷ 0 ∷ []) "FF110000\n"
+    -- where the load may stand it does
+    ∷ strictly "01010102000000640064\n0202000100640000000200950000\n" (0 ∷ 0 ∷ 44 ∷ 0 ∷ 3 ∷ []) "04000000000000000300\n0500000000000000000064\n"
+    -- of two slots each must keep its limit: level 1 is compared, and is over it in slot 2, or in slot 1
+    ∷ strictly "010201020000006400640064\n07020002006400000095000000010064000000640000\n" (17 ∷ 0 ∷ 0 ∷ 0 ∷ 0 ∷ []) "FF110000\n"
+    ∷ strictly "010201020000006400640064\n07020002009500000064000000010064000000640000\n" (17 ∷ 0 ∷ 0 ∷ 0 ∷ 0 ∷ []) "FF110000\n"
+    -- M-104: it stands at (149, 0), and is compared before it runs at (100, 0) with worth 0: 17, where the plain planner lets it stand
+    ∷ strictly "01010102000000640064\n060100950000000000640000\n" (17 ∷ 0 ∷ 0 ∷ 0 ∷ 0 ∷ []) "FF110000\n"
+    ∷ prints "01010102000000640064\n060100950000000000640000\n" "04000000000000000200\n0500000095000000000064\n"
+    -- M-108: under a header that states r = 3, at (30, -90), and at (40, -120), which is over the limit
+    ∷ strictly "0801010203000000640064\n07010001001EFFA6\n" (0 ∷ 0 ∷ 44 ∷ 1 ∷ 1 ∷ []) "04000000010000000101\n050000001EFFFFFFA60064\n"
+    ∷ strictly "0801010203000000640064\n070100010028FF88\n" (17 ∷ 0 ∷ 0 ∷ 0 ∷ 0 ∷ []) "FF110000\n"
+    -- one mill by both: the plain planner runs all three loads, above the limit, the strict one the best two that keep it
+    ∷ strictly close (0 ∷ 0 ∷ 48 ∷ 100 ∷ 14 ∷ []) "04000000640000000E010100\n0500000F8800000A5A14B9\n"
+    ∷ prints close "040000007D0000000E010101\n05000013D800000DCD14B9\n"
+    -- the words and the room that are needed, and one less; 10 comes before 11
+    ∷ shows (strictIn 72) (bytesOf drum) [] 44 (17 ∷ 0 ∷ 0 ∷ 0 ∷ 0 ∷ []) "FF110000\n"
+    ∷ shows (strictIn 71) (bytesOf drum) [] 43 (10 ∷ 0 ∷ 0 ∷ 0 ∷ 0 ∷ []) "FF0A0000\n"
+    ∷ shows (strictIn 72) (bytesOf drum) [] 43 (11 ∷ 0 ∷ 0 ∷ 0 ∷ 0 ∷ []) "FF0B0000\n"
+    -- the words that it may change: with 17 as many as are needed, with 10, 11 and 20 none
+    ∷ strictFrees drum 100 44 72
+    ∷ strictFrees drum 71 44 0
+    ∷ strictFrees drum 72 43 0
+    ∷ strictFrees "01010101000000640064\n0201000100040004\n" 6144 4096 0
+    ∷ []
+
 -- of sheets: charges, orders of starting and views, the longest book last
 unfoldable pub sheetRows : List Row
 sheetRows =
@@ -606,13 +673,23 @@ unfolding holds ratioRows programOutput refusalLine plannerResult planSheet fitt
     quickResult quickSheet quickRules quickChoice takeIfFits sizeOf settingOf
 ratio-rows-hold = refl
 
-pub table-holds : all holds (planRows ++ standingRows ++ mustRunRows ++ dayRows ++ ratioRows ++ sheetRows) ≡ true
+strict-rows-hold : all holds strictRows ≡ true
+unfolding holds strictRows programOutput refusalLine plannerResult planSheet fittingBook sizeRules
+    readBook readLoads headerRules statesRatio ratioDigits ratioIn loadRules someExceeds standingPairs mustRun optionStart standingPower first
+    isDigit digitValue digit valueFrom field digits signed unsigned lineLength
+    slotsOf plan bestAdmitted cells trials reachedCount sheetBytes firstLine slotLines sumsAndLimits slotLine numbersOf settingOf
+    strictBook strictResult strictFree strictPlan bestKeeping
+strict-rows-hold = refl
+
+pub table-holds : all holds (planRows ++ standingRows ++ mustRunRows ++ dayRows ++ ratioRows ++ strictRows ++ sheetRows) ≡ true
 table-holds =
-    both (planRows ++ standingRows ++ mustRunRows ++ dayRows ++ ratioRows) sheetRows
+    both (planRows ++ standingRows ++ mustRunRows ++ dayRows ++ ratioRows ++ strictRows) sheetRows
+    (both (planRows ++ standingRows ++ mustRunRows ++ dayRows ++ ratioRows) strictRows
     (both (planRows ++ standingRows ++ mustRunRows ++ dayRows) ratioRows
     (both (planRows ++ standingRows ++ mustRunRows) dayRows
     (both (planRows ++ standingRows) mustRunRows (both planRows standingRows plan-rows-hold standing-rows-hold) must-run-rows-hold) day-rows-hold)
     ratio-rows-hold)
+    strict-rows-hold)
     sheet-rows-hold
   where
     both : (xs ys : List Row) → all holds xs ≡ true → all holds ys ≡ true → all holds (xs ++ ys) ≡ true

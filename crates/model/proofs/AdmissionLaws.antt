@@ -183,7 +183,7 @@ unfolding slotsOf
 slots-for b = slots-from (length (b .loads)) (b .fineness) (b .ratio) 0 (b .limits)
 
 -- A CHOICE THAT KEEPS EVERY LIMIT IS ADMITTED
-pub keeps-admitted : (r n : ℕ) (slots : List Slot) → SlotsFor r n slots → (c : Choice) → length c ≡ n → T (keepsLimits slots c) → T (admitted slots c)
+pub keeps-admitted : (r n : ℕ) (slots : List Slot) → SlotsFor r n slots → (c : Choice) → length c ≤ n → T (keepsLimits slots c) → T (admitted slots c)
 keeps-admitted r n [] z c e t = tt
 keeps-admitted r n (s ∷ slots) z c e t =
     go (both (leb (apparentSquared (sumIn (s .place) c)) (square (s .limit))) (keepsLimits slots c) t)

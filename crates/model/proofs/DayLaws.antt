@@ -116,7 +116,7 @@ joined-split input = joined-from [] true input
 
 module _ (words : ℕ) where
   -- of a book that was read, 11 apart, the sizes are refused alike
-  at-sizes : (b : Problem) (room : ℕ) → sheetLength b ≤ mostSheet → (answerOf (andThen (fitting words room b) planSheet) .number ≡ 11 → ⊥)
+  at-sizes : (b : Problem) (room : ℕ) → sheetLength b ≤ mostSheet → (answerOf (andThen (fitting words room b) (planSheet plan)) .number ≡ 11 → ⊥)
       → fitting words room b ≡ fitting words mostSheet b
   unfolding sizeRules first
   at-sizes b room h n = go (ltb mostCells (cells b)) (ltb words (neededWords b)) (ltb room (sheetLength b)) n
@@ -124,7 +124,7 @@ module _ (words : ℕ) where
       sizes : Bool → Bool → Bool → Finding
       sizes t u v = first ((t ⇒ TooManyCells) ∷ (u ⇒ WorkTooSmall) ∷ (v ⇒ BufferTooSmall) ∷ [])
 
-      go : (t u v : Bool) → (answerOf (andThen (checked 0 (sizes t u v) (done b)) planSheet) .number ≡ 11 → ⊥)
+      go : (t u v : Bool) → (answerOf (andThen (checked 0 (sizes t u v) (done b)) (planSheet plan)) .number ≡ 11 → ⊥)
           → Path (Result Problem) (checked 0 (sizes t u v) (done b)) (checked 0 (sizes t u (ltb mostSheet (sheetLength b))) (done b))
       go true u v n = refl
       go false true v n = refl
@@ -154,9 +154,9 @@ module _ (words : ℕ) where
 pub any-suffices : AnySuffices
 unfolding plannerResult fittingBook
 any-suffices words book room n =
-    ap (λ x. andThen x planSheet)
+    ap (λ x. andThen x (planSheet plan))
     (at-book words book room
-    (λ b e. at-sizes words b room (sheet-few b (book-valid book b e)) (λ q. n (ap (λ x. answerOf (andThen (andThen x (fitting words room)) planSheet) .number) e ∙ q))))
+    (λ b e. at-sizes words b room (sheet-few b (book-valid book b e)) (λ q. n (ap (λ x. answerOf (andThen (andThen x (fitting words room)) (planSheet plan)) .number) e ∙ q))))
 
 -- ---- how long an output is
 

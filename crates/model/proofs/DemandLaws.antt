@@ -1,14 +1,15 @@
 -- Demand 3, with M-106, of every sheet that the planner gives, for any number of slots and loads.
 -- Assumes nothing.
 use mathlib.Core.Path.{_≡_, refl, sym, ap, _∙_, subst}
-use mathlib.Core.Logic.{inl}
+use mathlib.Core.Bool.{Bool}
+use mathlib.Core.Logic.{inl, _↔_}
 use mathlib.Core.List.{List, [], _∷_, _++_}
 use mathlib.Core.Option.{Option, none, some}
 use Prim.Native.Nat.{ℕ, zero, suc, _+_, _*_, _-_, _^_, _/_, _<_, _≤_, max}
 use native.Mathlib.Nat.{le-trans, le-max-left, mul-le-mul-left, mul-le-mul-right, div-mul-le-self, div-lt-iff-lt-mul, mul-zero, add-zero, zero-add, le-of-suc-le-suc}
 use native.Mathlib.Decide.{decLe}
 use native.Mathlib.Omega.{arith}
-use lib.Dec.{leb, le→leb}
+use lib.Dec.{leb, leb→le, le→leb}
 use lib.Dec as Dec
 use lib.IntN.{ℤ, pos, natAbs, _+ℤ_}
 use lib.ListN.{length, getD, drop}
@@ -16,18 +17,18 @@ use Rattle.model.specs.Lists.{Mem, Every}
 use Rattle.model.specs.Refusals.{Result, done}
 use Rattle.model.specs.Book.{Setting, Settings, Problem, readBook}
 use Rattle.model.specs.Choice.{Choice, IsChoice, noSetting, worthOf, sumIn, square, apparentSquared}
-use Rattle.model.specs.Grid.{Slot, slotAt, slotsFrom, slotsOf, keepsLimits, gridIn, spreadOf, times, Admissible, admits, admitted, plan}
+use Rattle.model.specs.Grid.{Slot, slotAt, slotsFrom, slotsOf, keepsLimits, gridIn, spreadOf, times, Admissible, admits, admitted, bestAdmitted, plan}
 use Rattle.model.specs.Trials.{trials}
 use Rattle.model.specs.Sheet.{sheetBytes}
 use Rattle.model.specs.Calls.{planned, plannerResult}
-use Rattle.model.specs.Demand.{Past12, apparentSquaredIn, S, T, N, CloserOverload, Demand3}
+use Rattle.model.specs.Demand.{Past12, apparentSquaredIn, S, T, N, KeepsLimits, OnSheet, CloserOverload, Demand3}
 use Rattle.model.specs.Valid.{SettingSmall, ValidBook}
 use Rattle.model.specs.Answers.{Output, answerOf, bufferAfter}
-use Rattle.model.proofs.ListLaws.{both, each, every-mem}
+use Rattle.model.proofs.ListLaws.{every-mem, all-is}
 use Rattle.model.proofs.UptoLaws.{suc-across}
 use Rattle.model.proofs.ChoiceLaws.{choice-every, worth-most}
 use Rattle.model.proofs.AdmissionLaws.{square-abs, abs-offset, of-admits, Rounded, rounded-choice}
-use Rattle.model.proofs.PlanLaws.{plan-sound, plan-worth, chosen-length}
+use Rattle.model.proofs.PlanLaws.{kept-sound, plan-worth, chosen-length}
 use Rattle.model.proofs.ValidLaws.{book-valid}
 use Rattle.model.proofs.MustRunLaws.{book-runs}
 use Rattle.model.proofs.SheetGivenLaws.{past-only, past-result}
@@ -38,28 +39,50 @@ use Rattle.model.proofs.Overload as Overload
 
 -- ---- slots by their number
 
-keeps-all : (n d r i : ℕ) (ss : List ℕ) (c : Choice)
-    → ((k : ℕ) → k < length ss → apparentSquared (sumIn (i + k) c) ≤ square (getD ss k 0)) → Dec.T (keepsLimits (slotsFrom n d r i ss) c)
-keeps-all n d r i [] c h = tt
-keeps-all n d r i (s ∷ ss) c h =
-    each (leb (apparentSquared (sumIn i c)) (square s)) (keepsLimits (slotsFrom n d r (suc i) ss) c)
-    (le→leb _ _ (subst (λ j. apparentSquared (sumIn j c) ≤ square s) (add-zero i) (h 0 (omega arith))))
-    (keeps-all n d r (suc i) ss c (λ k l. subst (λ j. apparentSquared (sumIn j c) ≤ square (getD ss k 0)) (suc-across i k) (h (suc k) (omega arith))))
+-- the slot of a book with that number
+abbrev pub slotIn : Problem → ℕ → Slot
+slotIn b slot = slotAt (N b) (b .fineness) (b .ratio) slot (S b slot)
 
-admitted-at : (n d r i : ℕ) (ss : List ℕ) (c : Choice) → Dec.T (admitted (slotsFrom n d r i ss) c)
-    → (k : ℕ) → k < length ss → Dec.T (admits (slotAt n d r (i + k) (getD ss k 0)) (gridIn (slotAt n d r (i + k) (getD ss k 0)) c))
-admitted-at n d r i [] c t k l = absurd (omega arith)
-admitted-at n d r i (s ∷ ss) c t zero l =
-    subst (λ j. Dec.T (admits (slotAt n d r j s) (gridIn (slotAt n d r j s) c))) (sym (add-zero i))
-    (both (admits (slotAt n d r i s) (gridIn (slotAt n d r i s) c)) (admitted (slotsFrom n d r (suc i) ss) c) t .0)
-admitted-at n d r i (s ∷ ss) c t (suc k) l =
-    subst (λ j. Dec.T (admits (slotAt n d r j (getD ss k 0)) (gridIn (slotAt n d r j (getD ss k 0)) c))) (sym (suc-across i k))
-    (admitted-at n d r (suc i) ss c (both (admits (slotAt n d r i s) (gridIn (slotAt n d r i s) c)) (admitted (slotsFrom n d r (suc i) ss) c) t .1) k (le-of-suc-le-suc l))
+module _ (Q : Slot → Type 0) where
+  each-from : (n d r i : ℕ) (ss : List ℕ) → Every Q (slotsFrom n d r i ss) → (k : ℕ) → k < length ss → Q (slotAt n d r (i + k) (getD ss k 0))
+  each-from n d r i [] h k l = absurd (omega arith)
+  each-from n d r i (s ∷ ss) h zero l = subst (λ j. Q (slotAt n d r j s)) (sym (add-zero i)) (h .0)
+  each-from n d r i (s ∷ ss) h (suc k) l =
+      subst (λ j. Q (slotAt n d r j (getD ss k 0))) (sym (suc-across i k)) (each-from n d r (suc i) ss (h .1) k (le-of-suc-le-suc l))
+
+  from-each : (n d r i : ℕ) (ss : List ℕ) → ((k : ℕ) → k < length ss → Q (slotAt n d r (i + k) (getD ss k 0))) → Every Q (slotsFrom n d r i ss)
+  from-each n d r i [] h = tt
+  from-each n d r i (s ∷ ss) h = (
+    subst (λ j. Q (slotAt n d r j s)) (add-zero i) (h 0 (omega arith)),
+    from-each n d r (suc i) ss (λ k l. subst (λ j. Q (slotAt n d r j (getD ss k 0))) (suc-across i k) (h (suc k) (omega arith))),
+  )
+
+  -- every slot of a book has a property exactly if the slot of each number has it
+  pub slots-each : (b : Problem) → Every Q (slotsOf b) ↔ ((slot : ℕ) → slot < T b → Q (slotIn b slot))
+  unfolding slotsOf
+  slots-each b = (
+    λ h slot l. subst (λ j. Q (slotAt (N b) (b .fineness) (b .ratio) j (S b slot))) (zero-add slot) (each-from (N b) (b .fineness) (b .ratio) 0 (b .limits) h slot l),
+    λ h. from-each (N b) (b .fineness) (b .ratio) 0 (b .limits)
+        (λ k l. subst (λ j. Q (slotAt (N b) (b .fineness) (b .ratio) j (S b k))) (sym (zero-add k)) (h k l)),
+  )
+
+-- the test of the limits is that every slot keeps its own
+pub keeps-is : (b : Problem) (c : Choice) → Dec.T (keepsLimits (slotsOf b) c) ↔ KeepsLimits b c
+keeps-is b c = (
+  λ t slot l. leb→le _ _ (slots-each kept b .0 (all-is test (slotsOf b) .0 t) slot l),
+  λ h. all-is test (slotsOf b) .1 (slots-each kept b .1 (λ slot l. le→leb _ _ (h slot l))),
+)
+  where
+    test : Slot → Bool
+    test s = leb (apparentSquared (sumIn (s .place) c)) (square (s .limit))
+
+    kept : Slot → Type 0
+    kept s = Dec.T (test s)
 
 -- ---- one admitted slot
 
 -- a power on the same grid point as another, each at most e above it
-abs-near : (b : ℤ) (l e i j : ℕ) → i ≤ e → j ≤ e → natAbs (times b l +ℤ pos i) ≤ natAbs (times b l +ℤ pos j) + e
+pub abs-near : (b : ℤ) (l e i j : ℕ) → i ≤ e → j ≤ e → natAbs (times b l +ℤ pos i) ≤ natAbs (times b l +ℤ pos j) + e
 abs-near b l e i j hi hj = omega (arith, abs-offset b l i, abs-offset b l j)
 
 -- the true sums P, |Q| lie at most e above a pair p, |q| that keeps the limit
@@ -88,7 +111,7 @@ near s c h n t =
     }
 
 -- d e ≤ S, and e is 0 where S < 2 N d
-spread-small : (n d r i s : ℕ) → d * spreadOf (slotAt n d r i s) ≤ s
+pub spread-small : (n d r i s : ℕ) → d * spreadOf (slotAt n d r i s) ≤ s
 spread-small n d r i s = go (decLe (s / (n * d)) 1)
   where
     go : Dec (s / (n * d) ≤ 1) → d * (n * (max 1 (s / (n * d)) - 1)) ≤ s
@@ -106,7 +129,7 @@ spread-zero n d r i s h =
     rw (z, mul-zero)
 
 -- P² + Q², by the magnitude of Q
-as-squares : (i : ℕ) (c : Choice) → apparentSquaredIn i c ≡ sumIn i c .p * sumIn i c .p + natAbs (sumIn i c .q) * natAbs (sumIn i c .q)
+pub as-squares : (i : ℕ) (c : Choice) → apparentSquaredIn i c ≡ sumIn i c .p * sumIn i c .p + natAbs (sumIn i c .q) * natAbs (sumIn i c .q)
 as-squares i c = ap (λ m. square (sumIn i c .p) + m) (square-abs (sumIn i c .q))
 
 module _ (n d r i s : ℕ) (c : Choice) (few : length c ≤ n) (t : Dec.T (admits (slotAt n d r i s) (gridIn (slotAt n d r i s) c))) where
@@ -122,16 +145,9 @@ module _ (n d r i s : ℕ) (c : Choice) (few : length c ≤ n) (t : Dec.T (admit
 
 -- ---- the slots of a book
 
--- the slot of a book with that number
-abbrev slotIn : Problem → ℕ → Slot
-slotIn b slot = slotAt (N b) (b .fineness) (b .ratio) slot (S b slot)
-
 admitted-in : (b : Problem) (c : Choice) → Dec.T (admitted (slotsOf b) c)
     → (slot : ℕ) → slot < T b → Dec.T (admits (slotIn b slot) (gridIn (slotIn b slot) c))
-unfolding slotsOf
-admitted-in b c t slot l =
-    subst (λ j. Dec.T (admits (slotAt (N b) (b .fineness) (b .ratio) j (S b slot)) (gridIn (slotAt (N b) (b .fineness) (b .ratio) j (S b slot)) c))) (zero-add slot)
-    (admitted-at (N b) (b .fineness) (b .ratio) 0 (b .limits) c t slot l)
+admitted-in b c t = slots-each (λ s. Dec.T (admits s (gridIn s c))) b .0 (all-is (λ s. admits s (gridIn s c)) (slotsOf b) .0 t)
 
 -- M-106 of an admitted choice
 closer-kept : (b : Problem) (c : Choice) → length c ≤ N b → Dec.T (admitted (slotsOf b) c) → CloserOverload b c
@@ -158,12 +174,21 @@ worth-small b c g m =
     low : (vs : Settings) (v : Setting) → Every SettingSmall vs → Mem v vs → v .worth ≤ 65535
     low vs v h k = below v (every-mem SettingSmall v vs k h)
 
+-- a choice of the book stands on its own sheet
+pub stands-on : (b : Problem) (c : Choice) (t : ℕ) (past : List ℕ) → ValidBook b → IsChoice (b .loads) c → OnSheet b (sheetBytes b c t ++ past) c
+stands-on b c t past good m =
+    record {
+      of-book = m;
+      numbers = λ k l.
+          numbers-on b c t (sheetBytes b c t ++ past) past refl (numbers-small (b .loads) c (good .loads .labels) m) noSetting k (omega (arith, chosen-length (b .loads) c m));
+      worth = worth-on b c t (sheetBytes b c t ++ past) past refl (worth-small b c good m);
+    }
+
 sheet-demand3 : (book : List ℕ) (b : Problem) (c : Choice) (t : ℕ) (past : List ℕ) → readBook book ≡ done b → plan b ≡ some c
     → Demand3 book (sheetBytes b c t ++ past)
-unfolding plan slotsOf
+unfolding plan bestAdmitted
 sheet-demand3 book b c t past e p =
-    let good : ValidBook b = book-valid book b e in
-    let sound : IsChoice (b .loads) c × Dec.T (admitted (slotsOf b) c) = plan-sound (slotsOf b) (b .loads) c p in
+    let sound : IsChoice (b .loads) c × Dec.T (admitted (slotsOf b) c) = kept-sound (admitted (slotsOf b)) (b .loads) c p in
     let len : length c ≡ length (b .loads) = chosen-length (b .loads) c (sound .0) in
     let few : length c ≤ N b = omega arith in
     let closer : CloserOverload b c = closer-kept b c few (sound .1) in
@@ -171,17 +196,9 @@ sheet-demand3 book b c t past e p =
       b = b;
       reads = e;
       choice = c;
-      on-sheet = record {
-        of-book = sound .0;
-        numbers = λ k l.
-            numbers-on b c t (sheetBytes b c t ++ past) past refl (numbers-small (b .loads) c (good .loads .labels) (sound .0)) noSetting k (omega arith);
-        worth = worth-on b c t (sheetBytes b c t ++ past) past refl (worth-small b c good (sound .0));
-      };
+      on-sheet = stands-on b c t past (book-valid book b e) (sound .0);
       runs = book-runs book b e c (sound .0);
-      worth = λ other m h.
-          plan-worth b c p other m
-          (keeps-all (N b) (b .fineness) (b .ratio) 0 (b .limits) other
-          (λ k l. subst (λ j. apparentSquared (sumIn j other) ≤ square (getD (b .limits) k 0)) (sym (zero-add k)) (h k l)));
+      worth = λ other m h. plan-worth b c p other m (keeps-is b other .1 h);
       closer = closer;
       -- "The older bound then follows from this one", as 2d + 3 ≤ 2(d + 2); slot < T is asked anew, so that a claim of fewer slots is refused here
       overload = λ slot l. omega (arith, closer slot (omega arith));

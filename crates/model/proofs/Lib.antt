@@ -40,4 +40,7 @@ pub mod OrderKeptLaws
 pub mod ViewLaws
 pub mod DayLaws
 pub mod RatioLaws
+pub mod ComparedLaws
+pub mod StrictLaws
+pub mod StrictGivenLaws
 pub mod AcceptanceTable

@@ -1,7 +1,7 @@
 -- Laws of tests and of the list functions of specs/Lists.antt.
 -- Assumes nothing.
 use mathlib.Core.Path.{_≡_, refl, sym, ap, ap₂, _∙_, subst}
-use mathlib.Core.Logic.{inl, inr}
+use mathlib.Core.Logic.{inl, inr, _↔_}
 use mathlib.Core.Bool.{Bool, true, false, cond, not, _&&_, _||_, false≢true}
 use mathlib.Core.List.{List, [], _∷_, _++_, map, append-assoc, append-nil}
 use Prim.Native.Nat.{ℕ, zero, suc, _+_, _*_, _<_, _≤_}
@@ -9,7 +9,7 @@ use native.Mathlib.Nat.{le-of-suc-le-suc}
 use native.Mathlib.Numerals.{add-one}
 use native.Mathlib.Omega.{arith}
 use lib.Dec.{T, leb, eqb}
-use lib.ListN.{length, getD, take, set, length-append}
+use lib.ListN.{length, getD, take, drop, set, length-append}
 use borrow.Author.Tests.{leb-true, eqb-true, eq-eqb}
 use Rattle.model.specs.Lists.{within, sumBelow, Mem, Every, keep, keepIf, all, any, concat, sameLists}
 
@@ -182,6 +182,18 @@ module _ {A : Type 0} where
   every-at P (x ∷ xs) d h zero l = h .0
   every-at P (x ∷ xs) d h (suc i) l = every-at P xs d (h .1) i (le-of-suc-le-suc l)
 
+  -- a test of all elements
+  pub all-is : (p : A → Bool) (xs : List A) → T (all p xs) ↔ Every (λ x. T (p x)) xs
+  all-is p xs = (to xs, from xs)
+    where
+      to : (xs : List A) → T (all p xs) → Every (λ x. T (p x)) xs
+      to [] t = tt
+      to (x ∷ xs) t = let a : T (p x) × T (all p xs) = both (p x) (all p xs) t in (a .0, to xs (a .1))
+
+      from : (xs : List A) → Every (λ x. T (p x)) xs → T (all p xs)
+      from [] h = tt
+      from (x ∷ xs) h = each (p x) (all p xs) (h .0) (from xs (h .1))
+
   pub every-all : (P : A → Type 0) (xs : List A) → ((x : A) → P x) → Every P xs
   every-all P [] h = tt
   every-all P (x ∷ xs) h = (h x, every-all P xs h)
@@ -198,6 +210,11 @@ module _ {A : Type 0} where
       (h .0, any-false p xs (h .1))
 
 module _ {A B : Type 0} where
+  -- two functions with the same values
+  pub map-each : (f g : A → B) (xs : List A) → map f xs ≡ map g xs → Every (λ x. f x ≡ g x) xs
+  map-each f g [] e = tt
+  map-each f g (x ∷ xs) e = (ap (λ ys. getD ys 0 (f x)) e, map-each f g xs (ap (drop 1) e))
+
   pub every-map : (P : B → Type 0) (f : A → B) (xs : List A) → Every (λ x. P (f x)) xs → Every P (map f xs)
   every-map P f [] h = tt
   every-map P f (x ∷ xs) h = (h .0, every-map P f xs (h .1))

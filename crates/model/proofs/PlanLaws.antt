@@ -13,10 +13,10 @@ use lib.ListN.{length}
 use Rattle.model.specs.Lists.{Mem, Every, keep}
 use Rattle.model.specs.Book.{Setting, Settings, Problem}
 use Rattle.model.specs.Choice.{Choice, IsChoice, choices, withEach, worthOf}
-use Rattle.model.specs.Grid.{Slot, slotsOf, keepsLimits, Admitted, admitted, better, betterOf, best, bestAdmitted, plan, IsPlan}
+use Rattle.model.specs.Grid.{Slot, slotsOf, keepsLimits, Admitted, admitted, better, betterOf, best, bestAdmitted, plan, NoBetter, IsPlan}
 use Rattle.model.specs.Cells.{Key, beats, betterKey, join, bestKey, choiceKey}
 use Rattle.model.proofs.ListLaws.{every-imp, every-keep, every-kept, every-append, every-left, every-right}
-use Rattle.model.proofs.KeyLaws.{Versus, versus, less, tie-more, not-trans, not-both}
+use Rattle.model.proofs.KeyLaws.{Versus, versus, more, tie-less, less, tie-more, not-trans, not-both}
 use Rattle.model.proofs.RecurrenceLaws.{key?, best-key}
 use Rattle.model.proofs.AdmissionLaws.{slots-for, keeps-admitted, admitted-is}
 
@@ -51,7 +51,7 @@ with-every P v vs (c ∷ cs) m h = (
   with-every P v vs cs m (every-right P (map (λ u. u ∷ c) vs) (withEach vs cs) h),
 )
 
-chosen-in : (loads : List Settings) (P : Choice → Type 0) (c : Choice) → IsChoice loads c → Every P (choices loads) → P c
+pub chosen-in : (loads : List Settings) (P : Choice → Type 0) (c : Choice) → IsChoice loads c → Every P (choices loads) → P c
 chosen-in [] P [] m h = h .0
 chosen-in [] P (v ∷ c) m h = absurd m
 chosen-in (vs ∷ loads) P [] m h = absurd m
@@ -150,56 +150,69 @@ every-unmap : (P : Key → Type 0) (cs : List Choice) → Every P (map choiceKey
 every-unmap P [] h = tt
 every-unmap P (c ∷ cs) h = (h .0, every-unmap P cs (h .1))
 
+-- ---- the best of the choices that pass a test
+
+module _ (p : Choice → Bool) (loads : List Settings) where
+  -- it is one of the choices, and passes
+  pub kept-sound : (d : Choice) → best (keep p (choices loads)) ≡ some d → IsChoice loads d × T (p d)
+  kept-sound d e =
+      best-sound (λ c. IsChoice loads c × T (p c)) (keep p (choices loads)) d e (every-keep (IsChoice loads) p (choices loads) (choices-are loads))
+
+  -- no choice that passes is of greater worth, or of the same worth and a smaller code
+  pub kept-best : (d : Choice) → best (keep p (choices loads)) ≡ some d → (c : Choice) → IsChoice loads c → T (p c) → better c d ≡ false
+  kept-best d e c m a =
+      chosen-in loads (λ x. T (p x) → better x d ≡ false) c m
+      (every-kept (λ x. better x d ≡ false) p (choices loads)
+      (every-unmap (λ x. beats x (choiceKey d) ≡ false) (keep p (choices loads))
+      (best-most (map choiceKey (keep p (choices loads))) (choiceKey d) (sym (best-key (keep p (choices loads))) ∙ ap key? e))))
+      a
+
+  -- where there is none, no choice passes
+  pub kept-none : best (keep p (choices loads)) ≡ none → (c : Choice) → IsChoice loads c → T (p c) → ⊥
+  kept-none e c m a =
+      chosen-in loads (λ x. T (p x) → ⊥) c m
+      (every-kept (λ x. ⊥) p (choices loads)
+      (every-unmap (λ x. ⊥) (keep p (choices loads))
+      (best-key-none (map choiceKey (keep p (choices loads))) (sym (best-key (keep p (choices loads))) ∙ ap key? e))))
+      a
+
+-- the test of the order says what the property does
+pub no-better : (d c : Choice) → better d c ≡ false → NoBetter d c
+no-better d c = go (better d c) (versus (choiceKey d) (choiceKey c))
+  where
+    go : (t : Bool) → Versus (choiceKey d) (choiceKey c) t → t ≡ false → NoBetter d c
+    go true w e = absurd (subst T e tt)
+    go false (less a) e = inl a
+    go false (tie-more a b) e = inr (sym a, b)
+
+pub not-better : (d c : Choice) → NoBetter d c → better d c ≡ false
+not-better d c = go (better d c) (versus (choiceKey d) (choiceKey c))
+  where
+    go : (t : Bool) → Versus (choiceKey d) (choiceKey c) t → NoBetter d c → t ≡ false
+    go false w h = refl
+    go true (more a) (inl h) = absurd (omega arith)
+    go true (more a) (inr h) = absurd (omega (arith, h .0))
+    go true (tie-less a f) (inl h) = absurd (omega arith)
+    go true (tie-less a f) (inr h) = absurd (omega (arith, h .1))
+
 -- ---- the plan
-
--- it is one of the choices, and admitted
-pub plan-sound : (slots : List Slot) (loads : List Settings) (d : Choice) → bestAdmitted slots loads ≡ some d → IsChoice loads d × T (admitted slots d)
-unfolding bestAdmitted
-plan-sound slots loads d e =
-    best-sound (λ c. IsChoice loads c × T (admitted slots c)) (keep (admitted slots) (choices loads)) d e
-    (every-keep (IsChoice loads) (admitted slots) (choices loads) (choices-are loads))
-
--- no admitted choice is of greater worth, or of the same worth and a smaller code
-pub plan-best : (slots : List Slot) (loads : List Settings) (d : Choice) → bestAdmitted slots loads ≡ some d
-    → (c : Choice) → IsChoice loads c → T (admitted slots c) → better c d ≡ false
-unfolding bestAdmitted
-plan-best slots loads d e c m a =
-    chosen-in loads (λ x. T (admitted slots x) → better x d ≡ false) c m
-    (every-kept (λ x. better x d ≡ false) (admitted slots) (choices loads)
-    (every-unmap (λ x. beats x (choiceKey d) ≡ false) (keep (admitted slots) (choices loads))
-    (best-most (map choiceKey (keep (admitted slots) (choices loads))) (choiceKey d)
-    (sym (best-key (keep (admitted slots) (choices loads))) ∙ ap key? e))))
-    a
-
--- what does not beat another
-not-better : (y x : Key) (t : Bool) → Versus y x t → t ≡ false → (y .worth < x .worth) ⊎ ((y .worth ≡ x .worth) × (x .code ≤ y .code))
-not-better y x true w e = absurd (subst T e tt)
-not-better y x false (less a) e = inl a
-not-better y x false (tie-more a b) e = inr (sym a, b)
 
 -- THE PLAN, in document 01's words: the admitted choice of greatest worth; among equals, the smallest code
 pub plan-is : (b : Problem) (c : Choice) → plan b ≡ some c → IsPlan b c
-unfolding plan
+unfolding plan bestAdmitted
 plan-is b c e =
-    let sound : IsChoice (b .loads) c × T (admitted (slotsOf b) c) = plan-sound (slotsOf b) (b .loads) c e in
+    let p : Choice → Bool = admitted (slotsOf b) in
+    let sound : IsChoice (b .loads) c × T (admitted (slotsOf b) c) = kept-sound p (b .loads) c e in
     record {
       choice = sound .0;
       admissible = admitted-is (slotsOf b) c .0 (sound .1);
-      greatest = λ other m h.
-          not-better (choiceKey other) (choiceKey c) (better other c) (versus (choiceKey other) (choiceKey c))
-          (plan-best (slotsOf b) (b .loads) c e other m (admitted-is (slotsOf b) other .1 h));
+      greatest = λ other m h. no-better other c (kept-best p (b .loads) c e other m (admitted-is (slotsOf b) other .1 h));
     }
 
 -- where there is no plan, no choice is admitted
 pub plan-none : (b : Problem) → plan b ≡ none → (c : Choice) → IsChoice (b .loads) c → Admitted (slotsOf b) c → ⊥
 unfolding plan bestAdmitted
-plan-none b e c m h =
-    chosen-in (b .loads) (λ x. T (admitted (slotsOf b) x) → ⊥) c m
-    (every-kept (λ x. ⊥) (admitted (slotsOf b)) (choices (b .loads))
-    (every-unmap (λ x. ⊥) (keep (admitted (slotsOf b)) (choices (b .loads)))
-    (best-key-none (map choiceKey (keep (admitted (slotsOf b)) (choices (b .loads))))
-    (sym (best-key (keep (admitted (slotsOf b)) (choices (b .loads)))) ∙ ap key? e))))
-    (admitted-is (slotsOf b) c .1 h)
+plan-none b e c m h = kept-none (admitted (slotsOf b)) (b .loads) e c m (admitted-is (slotsOf b) c .1 h)
 
 -- THE WORTH: a choice whose true sums keep every limit is worth no more than the plan
 pub plan-worth : (b : Problem) (d : Choice) → plan b ≡ some d
@@ -208,4 +221,4 @@ plan-worth b d e c m k =
     ⊎-elim (λ l. omega arith) (λ q. omega (arith, q .0))
     (plan-is b d e .greatest c m
     (admitted-is (slotsOf b) c .0
-    (keeps-admitted (b .ratio) (length (b .loads)) (slotsOf b) (slots-for b) c (chosen-length (b .loads) c m) k)))
+    (keeps-admitted (b .ratio) (length (b .loads)) (slotsOf b) (slots-for b) c (omega (arith, chosen-length (b .loads) c m)) k)))

@@ -13,12 +13,13 @@ use Rattle.model.specs.Lists.{Every, keep, all, sumBelow, distinct, same
 use Rattle.model.specs.Refusals.{done, _⇒_, first, checked}
 use Rattle.model.specs.Book.{Problem}
 use Rattle.model.specs.Choice.{Choice, choices, plus, powerIn, sumIn, square, apparentSquared}
-use Rattle.model.specs.Grid.{Slot, stepFor, slotAt, slotsFrom, slotsOf, keepsLimits, GridPair, gridOf, gridIn, gridsOf, admits, admitted, best, bestAdmitted, plan}
+use Rattle.model.specs.Grid.{Slot, stepFor, slotAt, slotsFrom, slotsOf, keepsLimits, GridPair, gridOf, gridIn, gridsOf, admits, admitted, better, best, bestAdmitted, plan}
 use Rattle.model.specs.Trials.{gridTop, samePair, inRange, reachedCount, trials}
 use Rattle.model.specs.Answers.{roomRule}
 use Rattle.model.specs.Sheet.{sumsAndLimits, sheetBytes, sheetOf, sheetLength}
 use Rattle.model.specs.Calls.{planned, planSheet}
 use Rattle.model.specs.Quick.{Candidate, candidatesFrom, sorted, takeIfFits, takeEach, firstSettings, quickChoice, quickRules, quickSheet}
+use Rattle.model.specs.Strict.{compared, bestKeeping, strictPlan}
 use Rattle.model.specs.Valid.{SettingKept}
 use Rattle.model.specs.Ratio.{PromiseKept, PairsWithin, withRatio, SamePlan}
 use Rattle.model.proofs.ListLaws.{every-take, every-mem}
@@ -76,6 +77,18 @@ module _ (r : ℕ) (b : Problem) where
   unfolding plan bestAdmitted slotsOf
   plan-same = ap (λ p. best (keep p (choices (b .loads)))) (fun-ext (admitted-same (length (b .loads)) (b .fineness) r (b .ratio) 0 (b .limits)))
 
+  strict-same : strictPlan (withRatio r b) ≡ strictPlan b
+  unfolding strictPlan bestKeeping slotsOf
+  strict-same = ap (λ p. best (keep p (choices (b .loads)))) (fun-ext (λ c. ap₂ _&&_ (keeps-same (length (b .loads)) (b .fineness) r (b .ratio) 0 (b .limits) c) (same c)))
+    where
+      pairs : (c : Choice) → gridsOf (slotsOf (withRatio r b)) c ≡ gridsOf (slotsOf b) c
+      pairs = grids-same (length (b .loads)) (b .fineness) r (b .ratio) 0 (b .limits)
+
+      same : (c : Choice) → compared (slotsOf (withRatio r b)) (b .loads) c ≡ compared (slotsOf b) (b .loads) c
+      same c =
+          ap (λ p. all p (choices (b .loads)))
+          (fun-ext (λ d. ap₂ (λ (g h : List GridPair). not (sameLists samePair g h && better d c)) (pairs c) (pairs d)))
+
   trials-same : trials (withRatio r b) ≡ trials b
   unfolding trials reachedCount slotsOf
   trials-same = ap (sumBelow (length (b .loads))) (fun-ext (λ k. ap (λ m. m * length (getD (b .loads) k [])) (reached k)))
@@ -91,10 +104,10 @@ module _ (r : ℕ) (b : Problem) where
   planned-same none = refl
   planned-same (some c) = ap (λ t. done (sheetOf b c t)) trials-same
 
-  sheet-same : planSheet (withRatio r b) ≡ planSheet b
+  sheet-same : (p : Problem → Option Choice) → p (withRatio r b) ≡ p b → planSheet p (withRatio r b) ≡ planSheet p b
   unfolding planSheet
-  sheet-same =
-      ap₂ (λ t x. checked 0 (first ((ltb (b .budget) t ⇒ BudgetExceeded) ∷ [])) x) trials-same (planned-same (plan (withRatio r b)) ∙ ap (planned b) plan-same)
+  sheet-same p e =
+      ap₂ (λ t x. checked 0 (first ((ltb (b .budget) t ⇒ BudgetExceeded) ∷ [])) x) trials-same (planned-same (p (withRatio r b)) ∙ ap (planned b) e)
 
   quick-same : (room : ℕ) → quickSheet room (withRatio r b) ≡ quickSheet room b
   unfolding quickSheet quickRules quickChoice slotsOf sheetBytes sumsAndLimits
@@ -104,4 +117,4 @@ module _ (r : ℕ) (b : Problem) where
       (taken-same (length (b .loads)) (b .fineness) r (b .ratio) (b .limits) (firstSettings b) (sorted (candidatesFrom 0 (b .loads))))
 
 pub same-plan : SamePlan
-same-plan r b = (sheet-same r b, quick-same r b)
+same-plan r b = (sheet-same r b plan (plan-same r b), sheet-same r b strictPlan (strict-same r b), quick-same r b)

@@ -6,7 +6,7 @@ use mathlib.Core.List.{List, [], _∷_}
 use Prim.Native.Nat.{ℕ, _≤_}
 use native.Mathlib.Omega.{arith}
 use Rattle.model.specs.declared.Refusal.{Refusal}
-use Rattle.model.specs.declared.Refusal.the-variants.{Unterminated, NotHex, WrongKind, SlotsOrOptionsOutOfRange, WrongLength, LoadsOrFinenessOutOfRange, ReactiveExceedsActive, TrailingBytes, TooManyCells, WorkTooSmall, BufferTooSmall, BudgetExceeded, ForeignSheet, WrongPriceCount, WrongNames, NamedLoadStands, NoPlan, TooManyBooks, OutputTooLong}
+use Rattle.model.specs.declared.Refusal.the-variants.{Unterminated, NotHex, WrongKind, SlotsOrOptionsOutOfRange, WrongLength, LoadsOrFinenessOutOfRange, ReactiveExceedsActive, TrailingBytes, TooManyCells, WorkTooSmall, BufferTooSmall, BudgetExceeded, ForeignSheet, WrongPriceCount, WrongNames, NamedLoadStands, NoPlan, TooManyBooks, OutputTooLong, TooCoarse}
 use Rattle.model.specs.declared.Finding.{Finding}
 use Rattle.model.specs.declared.Finding.the-variants.{Passed, Refused}
 use Rattle.model.specs.Lists.{Every}
@@ -102,6 +102,7 @@ number-some NamedLoadStands e = omega arith
 number-some NoPlan e = omega arith
 number-some TooManyBooks e = omega arith
 number-some OutputTooLong e = omega arith
+number-some TooCoarse e = omega arith
 
 -- a refusal, where there is one, has a number of at most n
 module _ (n : ℕ) where

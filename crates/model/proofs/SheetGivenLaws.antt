@@ -3,7 +3,7 @@
 -- Assumes nothing.
 use mathlib.Core.Path.{_≡_, refl, sym, ap, _∙_, subst}
 use mathlib.Core.Bool.{Bool, true, false}
-use mathlib.Core.Logic.{_⊎_, inl, inr, _↔_}
+use mathlib.Core.Logic.{_⊎_, inl, inr, ⊎-elim, _↔_}
 use mathlib.Core.List.{List, [], _∷_}
 use mathlib.Core.Option.{Option, none, some}
 use Prim.Native.Nat.{ℕ, _<_, _≤_}
@@ -26,8 +26,8 @@ use Rattle.model.specs.Sheet.{sheetLength}
 use Rattle.model.specs.Calls.{sizeRules, fitting, fittingBook, planned, planSheet, plannerResult}
 use Rattle.model.specs.Quick.{firstSettings, quickSheet, quickResult}
 use Rattle.model.specs.Valid.{ValidBook}
-use Rattle.model.specs.Demand.{Past12, SomeAdmitted, Answered}
-use Rattle.model.specs.Answers.{answerOf}
+use Rattle.model.specs.Demand.{Past12, SomeAdmitted, NumberIs, Answered}
+use Rattle.model.specs.Answers.{Output, answerOf}
 use Rattle.model.proofs.IntegerLaws.{split}
 use Rattle.model.proofs.RefusalLaws.{number-some, NoneApplies, first-passed, first-none, first-most, RulesMost, NumberMost}
 use Rattle.model.proofs.AdmissionLaws.{slots-for, keeps-admitted, admitted-is}
@@ -57,86 +57,108 @@ keeps-some b c m k =
     record {
       choice = c;
       of-book = m;
-      admissible = admitted-is (slotsOf b) c .0 (keeps-admitted (b .ratio) (length (b .loads)) (slotsOf b) (slots-for b) c (chosen-length (b .loads) c m) k);
+      admissible = admitted-is (slotsOf b) c .0 (keeps-admitted (b .ratio) (length (b .loads)) (slotsOf b) (slots-for b) c (omega (arith, chosen-length (b .loads) c m)) k);
     }
+
+-- ---- the number of a planner with the plan p
+
+module _ (p : Problem → Option Choice) where
+  module _ (book : List ℕ) (words room : ℕ) where
+    -- its result
+    abbrev pub resultBy : Result Output
+    resultBy = andThen (fittingBook book words room) (planSheet p)
+
+    size-rules-most : (b : Problem) → RulesMost 12 (sizeRules b words room)
+    unfolding sizeRules
+    size-rules-most b = (omega arith, (omega arith, (omega arith, tt)))
+
+    -- what it answers once none of 1 to 12 applies
+    pub result-by : (b : Problem) → Past12 book words room b → resultBy ≡ planned b (p b)
+    unfolding fittingBook planSheet sizeRules
+    result-by b h =
+        ap (λ x. andThen (andThen x (fitting words room)) (planSheet p)) (h .reads)
+        ∙ ap (λ f. andThen (checked 0 f (done b)) (planSheet p))
+        (first-none (sizeRules b words room)
+        (le-ltb mostCells (cells b) (h .few), (le-ltb words (neededWords b) (h .wide), (le-ltb room (sheetLength b) (h .long), tt))))
+        ∙ ap (λ f. checked 0 f (planned b (p b)))
+        (first-none ((ltb (b .budget) (trials b) ⇒ BudgetExceeded) ∷ []) (le-ltb (b .budget) (trials b) (h .enough), tt))
+
+    -- and a number that they do not have is given only there
+    pub only-by : Past (answerOf resultBy .number) → (b : Problem) × Past12 book words room b
+    unfolding fittingBook planSheet sizeRules first
+    only-by n = at-book (readBook book) refl (book-most book) n
+      where
+        at-budget : (b : Problem) → readBook book ≡ done b → first (sizeRules b words room) ≡ Passed → (t : Bool) → ltb (b .budget) (trials b) ≡ t
+            → Past (answerOf (checked 0 (first ((t ⇒ BudgetExceeded) ∷ [])) (planned b (p b))) .number)
+            → (b : Problem) × Past12 book words room b
+        at-budget b e f true q n = not-past BudgetExceeded (omega arith) n
+        at-budget b e f false q n =
+            let a : NoneApplies (sizeRules b words room) = first-passed (sizeRules b words room) f in (
+              b,
+              record {
+                reads = e;
+                few = ltb-false mostCells (cells b) (a .0);
+                wide = ltb-false words (neededWords b) (a .1 .0);
+                long = ltb-false room (sheetLength b) (a .1 .1 .0);
+                enough = ltb-false (b .budget) (trials b) q;
+              },
+            )
+
+        at-size : (b : Problem) → readBook book ≡ done b → (f : Finding) → first (sizeRules b words room) ≡ f
+            → Past (answerOf (andThen (checked 0 f (done b)) (planSheet p)) .number) → (b : Problem) × Past12 book words room b
+        at-size b e (Refused r) q n = not-past r (first-most 12 (sizeRules b words room) r (size-rules-most b) q) n
+        at-size b e Passed q n = at-budget b e q (ltb (b .budget) (trials b)) refl n
+
+        at-book : (x : Result Problem) → readBook book ≡ x → NumberMost 8 x → Past (answerOf (andThen (andThen x (fitting words room)) (planSheet p)) .number)
+            → (b : Problem) × Past12 book words room b
+        at-book (refused r line) e h n = not-past r (omega arith) n
+        at-book (done b) e h n = at-size b e (first (sizeRules b words room)) refl n
+
+  -- WHEN A SHEET IS GIVEN, AND WHEN 17: where `SomePlan` says that there is a plan, and `PastAll` that no refusal before 17 applies
+  module _ (SomePlan : Problem → Type 0) (with : (b : Problem) (c : Choice) → p b ≡ some c → SomePlan b) (without : (b : Problem) → p b ≡ none → SomePlan b → ⊥)
+      (PastAll : Problem → Type 0) (number : ℕ) (number-is : (b : Problem) → PastAll b → number ≡ answerOf (planned b (p b)) .number)
+      (only : (number ≡ 0) ⊎ (number ≡ 17) → (b : Problem) × PastAll b) where
+    pub number-by : NumberIs PastAll SomePlan number
+    number-by =
+        record {
+          sheet = λ b h a. number-is b h ∙ given b a (p b) refl;
+          sheet-only = λ e. let x = only (inl e) in (x .0, x .1, found (x .0) (p (x .0)) refl (sym (number-is (x .0) (x .1)) ∙ e));
+          no-plan = λ b h n. number-is b h ∙ missing b n (p b) refl;
+          no-plan-only = λ e. let x = only (inr e) in (x .0, x .1, lacking (x .0) (p (x .0)) refl (sym (number-is (x .0) (x .1)) ∙ e));
+        }
+      where
+        given : (b : Problem) → SomePlan b → (m : Option Choice) → p b ≡ m → answerOf (planned b m) .number ≡ 0
+        given b a none e = absurd (without b e a)
+        given b a (some c) e = refl
+
+        found : (b : Problem) (m : Option Choice) → p b ≡ m → answerOf (planned b m) .number ≡ 0 → SomePlan b
+        found b none e q = absurd (omega arith)
+        found b (some c) e q = with b c e
+
+        missing : (b : Problem) → (SomePlan b → ⊥) → (m : Option Choice) → p b ≡ m → answerOf (planned b m) .number ≡ 17
+        missing b n none e = refl
+        missing b n (some c) e = absurd (n (with b c e))
+
+        lacking : (b : Problem) (m : Option Choice) → p b ≡ m → answerOf (planned b m) .number ≡ 17 → SomePlan b → ⊥
+        lacking b none e q = without b e
+        lacking b (some c) e q = absurd (omega arith)
 
 -- ---- the planner's number
 
 module _ (book : List ℕ) (words room : ℕ) where
-  size-rules-most : (b : Problem) → RulesMost 12 (sizeRules b words room)
-  unfolding sizeRules
-  size-rules-most b = (omega arith, (omega arith, (omega arith, tt)))
-
-  -- what the planner answers once none of 1 to 12 applies
   pub past-result : (b : Problem) → Past12 book words room b → plannerResult book words room ≡ planned b (plan b)
-  unfolding plannerResult fittingBook planSheet sizeRules
-  past-result b h =
-      ap (λ x. andThen (andThen x (fitting words room)) planSheet) (h .reads)
-      ∙ ap (λ f. andThen (checked 0 f (done b)) planSheet)
-      (first-none (sizeRules b words room)
-      (le-ltb mostCells (cells b) (h .few), (le-ltb words (neededWords b) (h .wide), (le-ltb room (sheetLength b) (h .long), tt))))
-      ∙ ap (λ f. checked 0 f (planned b (plan b)))
-      (first-none ((ltb (b .budget) (trials b) ⇒ BudgetExceeded) ∷ []) (le-ltb (b .budget) (trials b) (h .enough), tt))
+  unfolding plannerResult
+  past-result = result-by plan book words room
 
-  -- and a number that they do not have is given only there
   pub past-only : Past (answerOf (plannerResult book words room) .number) → (b : Problem) × Past12 book words room b
-  unfolding plannerResult fittingBook planSheet sizeRules first
-  past-only p = at-book (readBook book) refl (book-most book) p
-    where
-      at-budget : (b : Problem) → readBook book ≡ done b → first (sizeRules b words room) ≡ Passed → (t : Bool) → ltb (b .budget) (trials b) ≡ t
-          → Past (answerOf (checked 0 (first ((t ⇒ BudgetExceeded) ∷ [])) (planned b (plan b))) .number)
-          → (b : Problem) × Past12 book words room b
-      at-budget b e f true q p = not-past BudgetExceeded (omega arith) p
-      at-budget b e f false q p =
-          let n : NoneApplies (sizeRules b words room) = first-passed (sizeRules b words room) f in (
-            b,
-            record {
-              reads = e;
-              few = ltb-false mostCells (cells b) (n .0);
-              wide = ltb-false words (neededWords b) (n .1 .0);
-              long = ltb-false room (sheetLength b) (n .1 .1 .0);
-              enough = ltb-false (b .budget) (trials b) q;
-            },
-          )
+  unfolding plannerResult
+  past-only = only-by plan book words room
 
-      at-size : (b : Problem) → readBook book ≡ done b → (f : Finding) → first (sizeRules b words room) ≡ f
-          → Past (answerOf (andThen (checked 0 f (done b)) planSheet) .number) → (b : Problem) × Past12 book words room b
-      at-size b e (Refused r) q p = not-past r (first-most 12 (sizeRules b words room) r (size-rules-most b) q) p
-      at-size b e Passed q p = at-budget b e q (ltb (b .budget) (trials b)) refl p
-
-      at-book : (x : Result Problem) → readBook book ≡ x → NumberMost 8 x → Past (answerOf (andThen (andThen x (fitting words room)) planSheet) .number)
-          → (b : Problem) × Past12 book words room b
-      at-book (refused r line) e h p = not-past r (omega arith) p
-      at-book (done b) e h p = at-size b e (first (sizeRules b words room)) refl p
-
-  number-is : (b : Problem) → Past12 book words room b → answerOf (plannerResult book words room) .number ≡ answerOf (planned b (plan b)) .number
-  number-is b h = ap (λ x. answerOf x .number) (past-result b h)
-
-  -- WHEN A SHEET IS GIVEN, AND WHEN 17
   answered : Answered book words room (answerOf (plannerResult book words room) .number)
   answered =
-      record {
-        sheet = λ b h a. number-is b h ∙ given b a (plan b) refl;
-        sheet-only = λ e. let x = past-only (inl e) in (x .0, x .1, found (x .0) (plan (x .0)) refl (sym (number-is (x .0) (x .1)) ∙ e));
-        no-plan = λ b h n. number-is b h ∙ missing b n (plan b) refl;
-        no-plan-only = λ e. let x = past-only (inr (omega (arith, e))) in (x .0, x .1, lacking (x .0) (plan (x .0)) refl (sym (number-is (x .0) (x .1)) ∙ e));
-      }
-    where
-      given : (b : Problem) → SomeAdmitted b → (m : Option Choice) → plan b ≡ m → answerOf (planned b m) .number ≡ 0
-      given b a none e = absurd (without-plan b e a)
-      given b a (some c) e = refl
-
-      found : (b : Problem) (m : Option Choice) → plan b ≡ m → answerOf (planned b m) .number ≡ 0 → SomeAdmitted b
-      found b none e q = absurd (omega arith)
-      found b (some c) e q = with-plan b c e
-
-      missing : (b : Problem) → (SomeAdmitted b → ⊥) → (m : Option Choice) → plan b ≡ m → answerOf (planned b m) .number ≡ 17
-      missing b n none e = refl
-      missing b n (some c) e = absurd (n (with-plan b c e))
-
-      lacking : (b : Problem) (m : Option Choice) → plan b ≡ m → answerOf (planned b m) .number ≡ 17 → SomeAdmitted b → ⊥
-      lacking b none e q = without-plan b e
-      lacking b (some c) e q = absurd (omega arith)
+      number-by plan SomeAdmitted with-plan without-plan (Past12 book words room) (answerOf (plannerResult book words room) .number)
+      (λ b h. ap (λ x. answerOf x .number) (past-result b h))
+      (λ n. past-only (⊎-elim (λ e. inl e) (λ e. inr (omega (arith, e))) n))
 
 -- the same of an answer that is the planner's
 pub answered-as : (book : List ℕ) (words room : ℕ) (a : Answer) → a ≡ answerOf (plannerResult book words room) → Answered book words room (a .number)

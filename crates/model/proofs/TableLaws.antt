@@ -3,7 +3,7 @@
 use mathlib.Core.Path.{_≡_, refl, sym, ap, ap₂, _∙_, subst, fun-ext}
 use mathlib.Core.Bool.{Bool, true, false, cond, _&&_, _||_}
 use mathlib.Core.List.{List, [], _∷_, map}
-use mathlib.Core.Option.{none}
+use mathlib.Core.Option.{Option, none, some}
 use Prim.Native.Nat.{ℕ, _+_, _<_, _≤_, _/_}
 use native.Mathlib.Nat.{le-trans, le-add-right}
 use native.Mathlib.Omega.{arith}
@@ -15,7 +15,7 @@ use Rattle.model.specs.Choice.{Choice, choices, withEach, powerIn}
 use Rattle.model.specs.Grid.{Slot, gridIn, gridsOf, admits, bestAdmitted}
 use Rattle.model.specs.Trials.{gridTop, cellCount, samePair, inRange, reachedCount}
 use Rattle.model.specs.Valid.{SettingKept, SlotsFor, Ready}
-use Rattle.model.specs.Cells.{bestKey, settingGrids, choiceKey, bestWhere, bestAt, admitsAll, joinUpto, isSome, countUpto, rangeAll, hasCell, cellBest}
+use Rattle.model.specs.Cells.{Key, bestKey, passing, settingGrids, choiceKey, bestWhere, bestAt, admitsAll, joinUpto, isSome, countUpto, rangeAll, hasCell, cellBest}
 use Rattle.model.specs.Index.{Within, indexOf}
 use Rattle.model.proofs.ListLaws.{both, each, bool-same, every-imp, every-append, every-map, every-keep, keep-same}
 use Rattle.model.proofs.ChoiceLaws.{Sized, choices-sized, plusEach}
@@ -199,7 +199,7 @@ range-plus (s ∷ slots) (x ∷ g) v t =
 
 -- ---- the plan, from the cells
 
-range-admits : (r n : ℕ) (slots : List Slot) → SlotsFor r n slots → (g : List Power) → T (admitsAll slots g) → T (rangeAll slots g)
+pub range-admits : (r n : ℕ) (slots : List Slot) → SlotsFor r n slots → (g : List Power) → T (admitsAll slots g) → T (rangeAll slots g)
 range-admits r n [] z g t = tt
 range-admits r n (s ∷ slots) z [] t = tt
 range-admits r n (s ∷ slots) z (x ∷ g) t =
@@ -207,7 +207,16 @@ range-admits r n (s ∷ slots) z (x ∷ g) t =
     (le→leb (x .p) (gridTop s) (admits-range s x (z .0 .0) (both (admits s x) (admitsAll slots g) t .0)))
     (range-admits r n slots (z .1) g (both (admits s x) (admitsAll slots g) t .1))
 
+-- a test that does not ask for the key
+passing-cond : (t : Bool) (x : Option Key) → cond t x none ≡ passing (λ k. t) x
+passing-cond true none = refl
+passing-cond false none = refl
+passing-cond t (some x) = refl
+
 pub plan-cells : (r n : ℕ) (slots : List Slot) (loads : List Settings) → Ready r n slots loads
     → key? (bestAdmitted slots loads)
-    ≡ joinUpto (cellCount slots) (λ i. cond (admitsAll slots (gridAt slots i)) (cellBest slots loads i) none)
-plan-cells r n slots loads h = plan-key slots loads ∙ best-cells r n slots loads h (admitsAll slots) (range-admits r n slots (h .for))
+    ≡ joinUpto (cellCount slots) (λ i. passing (λ k. admitsAll slots (gridAt slots i)) (cellBest slots loads i))
+plan-cells r n slots loads h =
+    plan-key slots loads
+    ∙ best-cells r n slots loads h (admitsAll slots) (range-admits r n slots (h .for))
+    ∙ ap (joinUpto (cellCount slots)) (fun-ext (λ i. passing-cond (admitsAll slots (gridAt slots i)) (cellBest slots loads i)))

@@ -36,13 +36,13 @@ abbrev pub planned : Problem → Option Choice → Result Output
 planned b none = refused NoPlan 0
 planned b (some c) = done (sheetOf b c (trials b))
 
--- 12: "trials over the budget"; 17 "comes after 12"
-unfoldable pub planSheet : Problem → Result Output
-planSheet b = checked 0 (first ((ltb (b .budget) (trials b) ⇒ BudgetExceeded) ∷ [])) (planned b (plan b))
+-- 12: "trials over the budget"; 17 "comes after 12". `p` says which choice is the plan of a book, if it has one
+unfoldable pub planSheet : (Problem → Option Choice) → Problem → Result Output
+planSheet p b = checked 0 (first ((ltb (b .budget) (trials b) ⇒ BudgetExceeded) ∷ [])) (planned b (p b))
 
 -- the planner's result, of the book's bytes, the number of words and the room: "no answer depends on what they held before"
 unfoldable pub plannerResult : List ℕ → ℕ → ℕ → Result Output
-plannerResult bytes words room = andThen (fittingBook bytes words room) planSheet
+plannerResult bytes words room = andThen (fittingBook bytes words room) (planSheet plan)
 
 -- "Refusals 1 to 11 change no word of the work area"; after a sheet or refusal 12 the needed words are free; 17 "leaves the
 -- needed words as free as 12 does"

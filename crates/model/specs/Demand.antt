@@ -31,13 +31,17 @@ pub record SomeAdmitted (b : Problem) : Type 0 where
   pub of-book : IsChoice (b .loads) choice
   pub admissible : Admitted (slotsOf b) choice
 
--- the number that the planner answers is 0 exactly where no refusal applies, and 17 exactly where none of 1 to 12 does and "no choice is admitted" (M-104);
+-- the number that a planner answers is 0 exactly where a book is past the refusals before 17 and has some plan, and 17 exactly where it is past them and has none
+pub record NumberIs (Past SomePlan : Problem → Type 0) (number : ℕ) : Type 0 where
+  pub sheet : (b : Problem) → Past b → SomePlan b → number ≡ 0
+  pub sheet-only : number ≡ 0 → (b : Problem) × Past b × SomePlan b
+  pub no-plan : (b : Problem) → Past b → (SomePlan b → ⊥) → number ≡ 17
+  pub no-plan-only : number ≡ 17 → (b : Problem) × Past b × (SomePlan b → ⊥)
+
+-- the planner's number is 0 exactly where no refusal applies, and 17 exactly where none of 1 to 12 does and "no choice is admitted" (M-104);
 -- M-105: "exactly when no refusal before it applies and none of those is admitted", of "the choices that run every such load"
-pub record Answered (book : List ℕ) (words room number : ℕ) : Type 0 where
-  pub sheet : (b : Problem) → Past12 book words room b → SomeAdmitted b → number ≡ 0
-  pub sheet-only : number ≡ 0 → (b : Problem) × Past12 book words room b × SomeAdmitted b
-  pub no-plan : (b : Problem) → Past12 book words room b → (SomeAdmitted b → ⊥) → number ≡ 17
-  pub no-plan-only : number ≡ 17 → (b : Problem) × Past12 book words room b × (SomeAdmitted b → ⊥)
+abbrev pub Answered : List ℕ → ℕ → ℕ → ℕ → Type 0
+Answered book words room number = NumberIs (Past12 book words room) SomeAdmitted number
 
 -- ---- of a sheet that was given
 
@@ -54,6 +58,10 @@ T b = length (b .limits)
 
 abbrev pub N : Problem → ℕ
 N b = length (b .loads)
+
+-- a choice "that keeps P² + Q² ≤ S² in every slot"
+abbrev pub KeepsLimits : Problem → Choice → Type 0
+KeepsLimits b c = (slot : ℕ) → slot < T b → apparentSquaredIn slot c ≤ square (S b slot)
 
 -- "the sheet's choice": one setting for each load of the book, whose number c and whose worth stand on the sheet's first line
 pub record OnSheet (b : Problem) (sheet : List ℕ) (choice : Choice) : Type 0 where
@@ -79,8 +87,7 @@ pub record Demand3 (book sheet : List ℕ) : Type 0 where
   pub runs : RunsRequired (afterLine book) choice
   -- "the sheet's choice is worth at least as much as every other choice that keeps P² + Q² ≤ S² in every slot"; M-104: "among choices summed this way";
   -- M-105: "among the choices that run every such load", which these are (MustRun, `ChoicesRun`)
-  pub worth : (other : Choice) → IsChoice (b .loads) other → ((slot : ℕ) → slot < T b → apparentSquaredIn slot other ≤ square (S b slot))
-      → worthOf other ≤ worthOf choice
+  pub worth : (other : Choice) → IsChoice (b .loads) other → KeepsLimits b other → worthOf other ≤ worthOf choice
   -- the next three have no condition on other choices: "whether or not another choice keeps the limits"
   pub closer : CloserOverload b choice
   -- "The older bound then follows from this one": "it keeps d²(P² + Q²) ≤ (d + 2)²S² in every slot"

@@ -116,6 +116,10 @@ abbrev pub best : List Choice → Option Choice
 best [] = none
 best (c ∷ cs) = betterOf c (best cs)
 
+-- the same order as a property: d is of less worth than c, or of the same worth and no smaller code
+abbrev pub NoBetter : Choice → Choice → Type 0
+NoBetter d c = (worthOf d < worthOf c) ⊎ ((worthOf d ≡ worthOf c) × (codeOf c ≤ codeOf d))
+
 -- the best of the admitted choices of some loads
 unfoldable pub bestAdmitted : List Slot → List Settings → Option Choice
 bestAdmitted slots loads = best (keep (admitted slots) (choices loads))
@@ -129,5 +133,4 @@ plan b = bestAdmitted (slotsOf b) (b .loads)
 pub record IsPlan (b : Problem) (c : Choice) : Type 0 where
   pub choice : IsChoice (b .loads) c
   pub admissible : Admitted (slotsOf b) c
-  pub greatest : (other : Choice) → IsChoice (b .loads) other → Admitted (slotsOf b) other
-      → (worthOf other < worthOf c) ⊎ ((worthOf other ≡ worthOf c) × (codeOf c ≤ codeOf other))
+  pub greatest : (other : Choice) → IsChoice (b .loads) other → Admitted (slotsOf b) other → NoBetter other c

@@ -10,12 +10,13 @@ use Rattle.model.specs.Bounds.{mostRatio}
 use Rattle.model.specs.Refusals.{done}
 use Rattle.model.specs.Book.{Problem, readBook}
 use Rattle.model.specs.Choice.{Choice, IsChoice}
-use Rattle.model.specs.Grid.{slotsOf, gridIn}
+use Rattle.model.specs.Grid.{slotsOf, gridIn, plan}
 use Rattle.model.specs.Trials.{gridTop}
 use Rattle.model.specs.Valid.{SettingKept}
 use Rattle.model.specs.Index.{Within}
 use Rattle.model.specs.Calls.{planSheet}
 use Rattle.model.specs.Quick.{quickSheet}
+use Rattle.model.specs.Strict.{strictPlan}
 
 -- "The promise of every option and standing pair becomes |Q| ≤ r × P", with "a ratio r from 1 to 3" (proofs/RatioLaws, `promise-kept`)
 abbrev pub PromiseKept : Type 0
@@ -33,7 +34,11 @@ PairsWithin =
 abbrev pub withRatio : ℕ → Problem → Problem
 withRatio r b = record { fineness = b .fineness; ratio = r; budget = b .budget; limits = b .limits; loads = b .loads }
 
--- NO SHEET DEPENDS ON THE RATIO: past 9 to 11 the planner's sheet, 12 and 17 are the same for every r, and so is what the quick planner gives (proofs/RatioLaws,
--- `same-plan`). So r decides only which books are refused by 6, 7, 9 and 10, and how many words are needed.
+-- NO SHEET DEPENDS ON THE RATIO: past 9 to 11 the planner's sheet, 12 and 17 are the same for every r, the strict planner's (M-109) too, and so is what the quick
+-- planner gives (proofs/RatioLaws, `same-plan`). So r decides only which books are refused by 6, 7, 9 and 10, and how many words are needed.
 abbrev pub SamePlan : Type 0
-SamePlan = (r : ℕ) (b : Problem) → (planSheet (withRatio r b) ≡ planSheet b) × ((room : ℕ) → quickSheet room (withRatio r b) ≡ quickSheet room b)
+SamePlan =
+    (r : ℕ) (b : Problem)
+    → (planSheet plan (withRatio r b) ≡ planSheet plan b)
+    × (planSheet strictPlan (withRatio r b) ≡ planSheet strictPlan b)
+    × ((room : ℕ) → quickSheet room (withRatio r b) ≡ quickSheet room b)

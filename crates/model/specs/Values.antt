@@ -11,7 +11,7 @@ use Rattle.model.specs.Lists.{uptoFrom, upto}
 use Rattle.model.specs.Bounds.{mostSlots, mostLoads, mostSettings, mostPowers}
 use Rattle.model.specs.Refusals.{Result, refused, done}
 use Rattle.model.specs.Book.{Power, Setting, Settings, Problem}
-use Rattle.model.specs.Choice.{Choice, settingOf, leastOf, powerIn}
+use Rattle.model.specs.Choice.{Choice, IsChoice, codeOf, decode, settingOf, leastOf, powerIn}
 use Rattle.model.specs.Answers.{bytesOnly, refusalAnswer, answerOf}
 use Rattle.model.specs.Valid.{ValidBook}
 
@@ -80,6 +80,16 @@ pickOf b picks k = settingOf (getD (b .loads) k []) (getD picks k 0)
 -- the choice whose numbers stand in an array
 unfoldable pub choiceOf : Problem → List ℕ → Choice
 choiceOf b picks = map (pickOf b picks) (upto (length (b .loads)))
+
+-- the choice that has a code
+abbrev pub choiceCoded : Problem → ℕ → Choice
+choiceCoded b code = choiceOf b (decode (length (b .loads)) code)
+
+-- a choice of the book has this code
+pub record IsCode (b : Problem) (code : ℕ) : Type 0 where
+  pub choice : Choice
+  pub of-book : IsChoice (b .loads) choice
+  pub is : code ≡ codeOf choice
 
 -- c is the number of one of a load's settings, as these go from its least on
 abbrev pub Offers : Settings → ℕ → Type 0

@@ -27,6 +27,7 @@ pub enum Refusal {
     NoPlan,
     TooManyBooks,
     OutputTooLong,
+    TooCoarse,
 }
 
 // What the table of refusals says: none applies, or the first that does.
@@ -175,6 +176,7 @@ impl Refusal {
             Refusal::NoPlan => 17,
             Refusal::TooManyBooks => 18,
             Refusal::OutputTooLong => 19,
+            Refusal::TooCoarse => 20,
         }
     }
 }

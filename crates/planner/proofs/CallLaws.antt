@@ -13,13 +13,15 @@ use Rattle.model.specs.declared.Refusal.the-variants.{BudgetExceeded, NoPlan}
 use Rattle.model.specs.Refusals.{Result, refused, done, checked, andThen}
 use Rattle.model.specs.Book.{Problem, readBook}
 use Rattle.model.specs.Choice.{Choice}
-use Rattle.model.specs.Grid.{plan}
 use Rattle.model.specs.Trials.{trials, WordsKept}
 use Rattle.model.specs.Sheet.{sheetOf}
 use Rattle.model.specs.Calls.{fitting, fittingBook, planned, planSheet, plannerResult, freeFor, freeWords}
 use Rattle.model.specs.Answers.{refusalAnswer, Writes}
 use Rattle.model.proofs.RefusalLaws.{first-here, first-last}
 use Rattle.model.proofs.AnswerLaws.{refused-writes}
+use Rattle.scan.specs.declared.Test.{Test}
+use Rattle.scan.specs.declared.Test.the-variants.{Admission}
+use Rattle.found.specs.Found.{planBy}
 use Rattle.planner.specs.Planner.{fittedPlan}
 
 module _ {A B C : Type 0} where
@@ -27,34 +29,40 @@ module _ {A B C : Type 0} where
   then-assoc (refused r number) f g = refl
   then-assoc (done a) f g = refl
 
-pub planner-is : (book : List ℕ) (words room : ℕ) → plannerResult book words room ≡ andThen (readBook book) (fittedPlan words room)
+-- the plan of the book that is left after some refusals
+pub fitted-is : (test : Test) (words room : ℕ) (x : Result Problem)
+    → andThen (andThen x (fitting words room)) (planSheet (planBy test)) ≡ andThen x (fittedPlan test words room)
+fitted-is test words room x = then-assoc x (fitting words room) (planSheet (planBy test))
+
+pub planner-is : (book : List ℕ) (words room : ℕ) → plannerResult book words room ≡ andThen (readBook book) (fittedPlan Admission words room)
 unfolding plannerResult fittingBook
-planner-is book words room = then-assoc (readBook book) (fitting words room) planSheet
+planner-is book words room = fitted-is Admission words room (readBook book)
 
 pub free-is : (book : List ℕ) (words room : ℕ) → freeWords book words room ≡ freeFor (andThen (readBook book) (fitting words room))
 unfolding freeWords fittingBook
 free-is book words room = refl
 
-module _ (b : Problem) where
-  pub plan-over : b .budget < trials b → planSheet b ≡ refused BudgetExceeded 0
+-- p says which choice is the plan of a book
+module _ (p : Problem → Option Choice) (b : Problem) where
+  pub plan-over : b .budget < trials b → planSheet p b ≡ refused BudgetExceeded 0
   unfolding planSheet
-  plan-over h = ap (λ f. checked 0 f (planned b (plan b))) (first-here BudgetExceeded [] (ltb (b .budget) (trials b)) (lt-ltb _ _ h))
+  plan-over h = ap (λ f. checked 0 f (planned b (p b))) (first-here BudgetExceeded [] (ltb (b .budget) (trials b)) (lt-ltb _ _ h))
 
   -- within the budget the plan decides
-  plan-due : (m : Option Choice) → trials b ≤ b .budget → plan b ≡ m → planned b m ≡ planSheet b
+  plan-due : (m : Option Choice) → trials b ≤ b .budget → p b ≡ m → planned b m ≡ planSheet p b
   unfolding planSheet
   plan-due m h e =
-      ap (planned b) (sym e) ∙ sym (ap (λ f. checked 0 f (planned b (plan b))) (first-last BudgetExceeded (ltb (b .budget) (trials b)) (le-ltb _ _ h)))
+      ap (planned b) (sym e) ∙ sym (ap (λ f. checked 0 f (planned b (p b))) (first-last BudgetExceeded (ltb (b .budget) (trials b)) (le-ltb _ _ h)))
 
-  pub plan-missing : trials b ≤ b .budget → plan b ≡ none → planSheet b ≡ refused NoPlan 0
+  pub plan-missing : trials b ≤ b .budget → p b ≡ none → planSheet p b ≡ refused NoPlan 0
   plan-missing h e = sym (plan-due none h e)
 
-  pub plan-within : (c : Choice) (t : ℕ) → trials b ≤ b .budget → plan b ≡ some c → t ≡ trials b → done (sheetOf b c t) ≡ planSheet b
+  pub plan-within : (c : Choice) (t : ℕ) → trials b ≤ b .budget → p b ≡ some c → t ≡ trials b → done (sheetOf b c t) ≡ planSheet p b
   plan-within c t h e q = ap (λ n. done (sheetOf b c n)) q ∙ plan-due (some c) h e
 
 -- a refusal of the sizes: the answer, the buffer as before, and no word changed
-pub size-refused : (words : List ℕ) (before : List ℕ) (b : Problem) (r : Refusal) (a : Answer) → a ≡ refusalAnswer r 0
+pub size-refused : (test : Test) (words : List ℕ) (before : List ℕ) (b : Problem) (r : Refusal) (a : Answer) → a ≡ refusalAnswer r 0
     → fitting (length words) (length before) b ≡ refused r 0
-    → Writes (fittedPlan (length words) (length before) b) before before a × WordsKept (freeFor (fitting (length words) (length before) b)) words words
-size-refused words before b r a e q =
-    (refused-writes _ r 0 before a e (ap (λ x. andThen x planSheet) q), record { same-length = refl; kept = refl })
+    → Writes (fittedPlan test (length words) (length before) b) before before a × WordsKept (freeFor (fitting (length words) (length before) b)) words words
+size-refused test words before b r a e q =
+    (refused-writes _ r 0 before a e (ap (λ x. andThen x (planSheet (planBy test))) q), record { same-length = refl; kept = refl })

@@ -4,7 +4,9 @@ use Rattle.model.specs.Refusals.{Result, andThen}
 use Rattle.model.specs.Book.{Problem}
 use Rattle.model.specs.Answers.{Output}
 use Rattle.model.specs.Calls.{fitting, planSheet}
+use Rattle.scan.specs.declared.Test.{Test}
+use Rattle.found.specs.Found.{planBy}
 
--- the plan of a book that was read, after refusals 9 to 11
-abbrev pub fittedPlan : ℕ → ℕ → Problem → Result Output
-fittedPlan words room b = andThen (fitting words room b) planSheet
+-- the plan of a book that was read, by the test of the search, after refusals 9 to 11
+abbrev pub fittedPlan : Test → ℕ → ℕ → Problem → Result Output
+fittedPlan test words room b = andThen (fitting words room b) (planSheet (planBy test))

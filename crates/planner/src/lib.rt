@@ -1,9 +1,10 @@
-// The planner: the sheet of the plan, or the first refusal of 1 to 12 and 17.
+// The planner: the sheet of the plan, or the first refusal of 1 to 12 and 17. Which plan a book has goes by the test of the search.
 use grid::Grid;
 use model::Answer;
 use model::Book;
 use model::Finding;
 use model::Refusal;
+use scan::Test;
 ghost use mathlib.Core.Path.{_≡_};
 ghost use Prim.Native.Nat.{_≤_};
 ghost use lib.ListN.{length};
@@ -15,32 +16,33 @@ ghost use Rattle.model.specs.Calls.{planSheet, plannerResult, fitting, freeFor,
 ghost use Rattle.model.specs.Demand.{Answered, Demand3};
 ghost use Rattle.model.specs.Values.{Held, problemOf};
 ghost use Rattle.grid.specs.Geometry.{GridIs};
+ghost use Rattle.found.specs.Found.{planBy};
 ghost use Rattle.planner.specs.Planner.{fittedPlan};
 
 // The planner for a book that fits: refusal 12 or 17, or the sheet.
-fn plan_for(book: Book, grid: Grid, work: &mut [u64], sheet: &mut [u8]) -> Answer
+fn plan_for(book: Book, grid: Grid, work: &mut [u64], sheet: &mut [u8], test: Test) -> Answer
     requires { ⌜ Held book ⌝ }
     requires { ⌜ GridIs (slotsOf (problemOf book)) grid ⌝ }
     requires { ⌜ neededWords (problemOf book) ≤ length (now work) ⌝ }
     requires { ⌜ sheetLength (problemOf book) ≤ length (now sheet) ⌝ }
-    ensures result { λ r. ⌜ Writes (planSheet (problemOf book)) (now (sheet .entry)) (now (sheet .exit)) r ⌝ }
+    ensures result { λ r. ⌜ Writes (planSheet (planBy test) (problemOf book)) (now (sheet .entry)) (now (sheet .exit)) r ⌝ }
     ensures words { λ _. ⌜ WordsKept (neededWords (problemOf book)) (now (work .entry)) (now (work .exit)) ⌝ }
 {
-    let found = found::search_for(book, grid, work);
+    let found = found::search_for(book, grid, work, test);
     if !found.within {
         return Answer::refusal(Refusal::BudgetExceeded, 0);
     }
-    if !found.admitted {
+    if !found.planned {
         return Answer::refusal(Refusal::NoPlan, 0);
     }
-    let picks = found::picks_of(found.code, book.count);
+    let picks = sums::picks_of(found.code, book.count);
     sheet::write_sheet(book, picks, found.trials, sheet)
 }
 
 // The planner for a book that was read: refusals 9 to 12 and 17, or the sheet.
-fn plan_book(book: Book, work: &mut [u64], sheet: &mut [u8]) -> Answer
+pub fn plan_book(book: Book, work: &mut [u64], sheet: &mut [u8], test: Test) -> Answer
     requires { ⌜ Held book ⌝ }
-    ensures result { λ r. ⌜ Writes (fittedPlan (length (now (work .entry))) (length (now (sheet .entry))) (problemOf book)) (now (sheet .entry)) (now (sheet .exit)) r ⌝ }
+    ensures result { λ r. ⌜ Writes (fittedPlan test (length (now (work .entry))) (length (now (sheet .entry))) (problemOf book)) (now (sheet .entry)) (now (sheet .exit)) r ⌝ }
     ensures words { λ _. ⌜ WordsKept (freeFor (fitting (length (now (work .entry))) (length (now (sheet .entry))) (problemOf book))) (now (work .entry)) (now (work .exit)) ⌝ }
 {
     let grid = grid::grid_of(book);
@@ -48,7 +50,7 @@ fn plan_book(book: Book, work: &mut [u64], sheet: &mut [u8]) -> Answer
     if let Finding::Refused(r) = finding {
         return Answer::refusal(r, 0);
     }
-    plan_for(book, grid, work, sheet)
+    plan_for(book, grid, work, sheet, test)
 }
 
 // The planner: the sheet of the plan, or the first refusal of 1 to 12 and 17.
@@ -63,5 +65,5 @@ pub fn plan(book: &[u8], work: &mut [u64], sheet: &mut [u8]) -> Answer
     if answer.number != 0 {
         return answer;
     }
-    plan_book(reading.book, work, sheet)
+    plan_book(reading.book, work, sheet, Test::Admission)
 }

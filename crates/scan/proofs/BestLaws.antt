@@ -1,4 +1,4 @@
--- Laws of `beats`, `better_at` and `scan_row`: the better of two cells, and the best of a row cell by cell.
+-- Laws of `beats`, `better_at` and `scan_row`: the better of two cells, whether it passes a test, and the best of a row cell by cell.
 -- Assumes nothing.
 use Prim.Native.Nat.{ℕ, zero, suc, _+_, _-_, _*_, _<_, _≤_}
 use mathlib.Core.Path.{_≡_, refl, sym, ap, ap₂, _∙_}
@@ -10,15 +10,15 @@ use native.Mathlib.Omega.{arith}
 use borrow.Author.Tests.{eq-eqb, ne-eqb, lt-ltb, le-ltb, ltb-true, ltb-false}
 use lib.Dec.{ltb}
 use lib.ListN.{getD}
-use Rattle.model.specs.Grid.{Slot}
-use Rattle.model.specs.Cells.{Key, join, joinUpto, admitsAll}
-use Rattle.model.specs.Index.{gridFrom}
+use Rattle.model.specs.Book.{Problem}
+use Rattle.model.specs.Cells.{Key, join, joinUpto, passing}
+use Rattle.model.specs.Values.{IsCode}
 use Rattle.model.proofs.KeyLaws.{join-none, join-assoc, lt-of-not}
 use Rattle.model.proofs.CellLaws.{upto-none}
 use Rattle.table.specs.declared.Cell.{Cell}
 use Rattle.table.specs.Table.{cellAt, keyIf, keyOf}
 use Rattle.rows.proofs.SourceLaws.{held-in, held-low, held-high}
-use Rattle.scan.specs.Scan.{Better, admittedIn}
+use Rattle.scan.specs.Scan.{Better, CellTest, passedIn, Coded, RowCoded}
 
 -- ---- the better of two cells
 
@@ -83,36 +83,78 @@ module _ (best c : Cell) where
       go (suc w) zero q = absurd (omega arith)
       go (suc w) (suc v) q = join-tie-less (record { worth = w; code = best .code }) (record { worth = v; code = c .code }) (omega arith) h
 
+  no-better-empty : (false ≡ true) → {A : Type 0} → A
+  no-better-empty z = let n : _≡_ {A = Bool} true false = sym z in absurd (no-true n)
+
   pub better-empty : c .worth ≡ 0 → Better best c false
-  better-empty e = record { yes-better = λ z. let n : _≡_ {A = Bool} true false = sym z in absurd (no-true n); no-better = λ z. kept-empty e }
+  better-empty e = record { reached = λ z. no-better-empty z; yes-better = λ z. no-better-empty z; no-better = λ z. kept-empty e }
 
-  pub better-tie : c .worth ≡ best .worth → Better best c (ltb (c .code) (best .code))
-  better-tie e = record {
-    yes-better = λ z. taken-tie e (ltb-true (c .code) (best .code) z);
-    no-better = λ z. kept-tie e (ltb-false (c .code) (best .code) z);
-  }
+  -- a cell that is not empty
+  module _ (some-worth : c .worth ≡ 0 → ⊥) where
+    pub better-tie : c .worth ≡ best .worth → Better best c (ltb (c .code) (best .code))
+    better-tie e = record {
+      reached = λ z. some-worth;
+      yes-better = λ z. taken-tie e (ltb-true (c .code) (best .code) z);
+      no-better = λ z. kept-tie e (ltb-false (c .code) (best .code) z);
+    }
 
-  pub better-worth : (c .worth ≡ best .worth → ⊥) → Better best c (ltb (best .worth) (c .worth))
-  better-worth n = record {
-    yes-better = λ z. taken-more (ltb-true (best .worth) (c .worth) z);
-    no-better = λ z. kept-less (lt-of-not (ltb-false (best .worth) (c .worth) z) (λ e. n (sym e)));
-  }
+    pub better-worth : (c .worth ≡ best .worth → ⊥) → Better best c (ltb (best .worth) (c .worth))
+    better-worth n = record {
+      reached = λ z. some-worth;
+      yes-better = λ z. taken-more (ltb-true (best .worth) (c .worth) z);
+      no-better = λ z. kept-less (lt-of-not (ltb-false (best .worth) (c .worth) z) (λ e. n (sym e)));
+    }
 
--- what is not better leaves the best, admitted or not
-not-taken : (t : Bool) (x y : Option Key) → join x y ≡ x → x ≡ join x (cond t y none)
-not-taken true x y e = sym e
-not-taken false x y e = sym (join-none x)
+-- ---- the test of a cell
 
--- the best after the cell d, where r tells whether it is better and t whether it is admitted
+-- what is not better leaves the best, whether it passes or not
+not-taken : (t : Key → Bool) (x y : Option Key) → join x y ≡ x → x ≡ join x (passing t y)
+not-taken t x none e = sym e
+not-taken t x (some y) e = go (t y)
+  where
+    go : (p : Bool) → x ≡ join x (cond p (some y) none)
+    go true = sym e
+    go false = sym (join-none x)
+
+-- p tells whether the cell's code passes: then its key does, or nothing
+module _ (t : Key → Bool) (c : Cell) {p : Bool} (h : (worth : ℕ) → p ≡ t (record { worth = worth; code = c .code })) where
+  passed : p ≡ true → passing t (keyOf c) ≡ keyOf c
+  unfolding keyOf
+  passed e = go (c .worth)
+    where
+      go : (w : ℕ) → passing t (keyIf w (c .code)) ≡ keyIf w (c .code)
+      go zero = refl
+      go (suc w) = rw (sym (h w), e)
+
+  not-passed : p ≡ false → passing t (keyOf c) ≡ none
+  unfolding keyOf
+  not-passed e = go (c .worth)
+    where
+      go : (w : ℕ) → passing t (keyIf w (c .code)) ≡ none
+      go zero = refl
+      go (suc w) = rw (sym (h w), e)
+
+-- the best after the cell d, where r tells whether it is better
 module _ (best : Cell) {c d : Cell} (e : c ≡ d) {r : Bool} (b : Better best c r) where
-  pub best-kept : (t : Bool) → r ≡ false → keyOf best ≡ join (keyOf best) (cond t (keyOf d) none)
-  best-kept t z = not-taken t (keyOf best) (keyOf d) (ap (λ x. join (keyOf best) (keyOf x)) (sym e) ∙ b .no-better z)
+  -- a better cell's code is that of a choice
+  pub better-coded : (p : Problem) → r ≡ true → Coded p (keyOf d) → IsCode p (c .code)
+  unfolding keyOf
+  better-coded p z h = go (c .worth) (b .reached z) (rw (sym e) at h)
+    where
+      go : (w : ℕ) → (w ≡ 0 → ⊥) → Coded p (keyIf w (c .code)) → IsCode p (c .code)
+      go zero n k = absurd (n refl)
+      go (suc w) n k = k (record { worth = w; code = c .code }) refl
 
-  pub best-taken : (t : Bool) → r ≡ true → t ≡ true → keyOf c ≡ join (keyOf best) (cond t (keyOf d) none)
-  best-taken t z a = rw a (sym (b .yes-better z) ∙ ap (λ x. join (keyOf best) (keyOf x)) e)
+  module _ (t : Key → Bool) where
+    pub best-kept : r ≡ false → keyOf best ≡ join (keyOf best) (passing t (keyOf d))
+    best-kept z = not-taken t (keyOf best) (keyOf d) (ap (λ x. join (keyOf best) (keyOf x)) (sym e) ∙ b .no-better z)
 
-  pub best-refused : (t : Bool) → t ≡ false → keyOf best ≡ join (keyOf best) (cond t (keyOf d) none)
-  best-refused t a = rw a (sym (join-none (keyOf best)))
+    module _ {p : Bool} (h : (worth : ℕ) → p ≡ t (record { worth = worth; code = c .code })) where
+      pub best-taken : r ≡ true → p ≡ true → keyOf c ≡ join (keyOf best) (passing t (keyOf d))
+      best-taken z k = sym (b .yes-better z) ∙ ap (join (keyOf best)) (sym (passed t c h k)) ∙ ap (λ x. join (keyOf best) (passing t (keyOf x))) e
+
+      pub best-refused : p ≡ false → keyOf best ≡ join (keyOf best) (passing t (keyOf d))
+      best-refused k = sym (ap (join (keyOf best)) (ap (λ x. passing t (keyOf x)) (sym e) ∙ not-passed t c h k) ∙ join-none (keyOf best))
 
 -- ---- a row
 
@@ -126,52 +168,50 @@ upto-tail f n (suc k) h =
 pub upto-ends : (f : ℕ → Option Key) (n m : ℕ) → n ≤ m → ((i : ℕ) → n ≤ i → f i ≡ none) → joinUpto m f ≡ joinUpto n f
 upto-ends f n m l h = let e : m - n + n ≡ m = omega arith in rw e at (upto-tail f n (m - n) h)
 
-cond-none : (t : Bool) {x : Option Key} → x ≡ none → cond t x none ≡ none
-cond-none true e = e
-cond-none false e = refl
+module _ (t : CellTest) (ws : List ℕ) (at low high row : ℕ) where
+  passed-low : (i : ℕ) → i < low → passedIn t ws at low high row i ≡ none
+  unfolding passedIn
+  passed-low i l = ap (passing (t row i)) (held-low ws at low high i l)
 
-module _ (ss : List Slot) (ws : List ℕ) (at low high row : ℕ) where
-  admitted-low : (i : ℕ) → i < low → admittedIn ss ws at low high row i ≡ none
-  unfolding admittedIn
-  admitted-low i l = cond-none (admitsAll ss (gridFrom ss row i)) (held-low ws at low high i l)
-
-  admitted-high : (i : ℕ) → high ≤ i → admittedIn ss ws at low high row i ≡ none
-  unfolding admittedIn
-  admitted-high i l = cond-none (admitsAll ss (gridFrom ss row i)) (held-high ws at low high i l)
+  passed-high : (i : ℕ) → high ≤ i → passedIn t ws at low high row i ≡ none
+  unfolding passedIn
+  passed-high i l = ap (passing (t row i)) (held-high ws at low high i l)
 
   -- a cell of the stretch
-  admitted-in : (i : ℕ) → low ≤ i → i < high
-      → cond (admitsAll ss (gridFrom ss row i)) (keyOf (cellAt ws (at + i))) none ≡ admittedIn ss ws at low high row i
-  unfolding admittedIn
-  admitted-in i l k = ap (λ x. cond (admitsAll ss (gridFrom ss row i)) x none) (sym (held-in ws at low high i l k))
+  passed-in : (i : ℕ) → low ≤ i → i < high → passing (t row i) (keyOf (cellAt ws (at + i))) ≡ passedIn t ws at low high row i
+  unfolding passedIn
+  passed-in i l k = ap (passing (t row i)) (sym (held-in ws at low high i l k))
 
   -- the best before the stretch
-  pub row-start : (x : Option Key) → x ≡ join x (joinUpto low (admittedIn ss ws at low high row))
-  row-start x = sym (ap (join x) (upto-none low (admittedIn ss ws at low high row) admitted-low) ∙ join-none x)
+  pub row-start : (x : Option Key) → x ≡ join x (joinUpto low (passedIn t ws at low high row))
+  row-start x = sym (ap (join x) (upto-none low (passedIn t ws at low high row) passed-low) ∙ join-none x)
 
   -- after a start y, the best of the columns before col
   module _ (y : Option Key) (col : ℕ) where
     -- one cell more
-    pub row-next : {x z : Option Key} → low ≤ col → col < high → x ≡ join y (joinUpto col (admittedIn ss ws at low high row))
-        → z ≡ join x (cond (admitsAll ss (gridFrom ss row col)) (keyOf (cellAt ws (at + col))) none)
-        → z ≡ join y (joinUpto (col + 1) (admittedIn ss ws at low high row))
+    pub row-next : {x z : Option Key} → low ≤ col → col < high → x ≡ join y (joinUpto col (passedIn t ws at low high row))
+        → z ≡ join x (passing (t row col) (keyOf (cellAt ws (at + col))))
+        → z ≡ join y (joinUpto (col + 1) (passedIn t ws at low high row))
     row-next l k e q =
         q
-        ∙ ap₂ join e (admitted-in col l k)
-        ∙ sym (join-assoc y (joinUpto col (admittedIn ss ws at low high row)) (admittedIn ss ws at low high row col))
-        ∙ sym (ap (λ n. join y (joinUpto n (admittedIn ss ws at low high row))) (add-one col))
+        ∙ ap₂ join e (passed-in col l k)
+        ∙ sym (join-assoc y (joinUpto col (passedIn t ws at low high row)) (passedIn t ws at low high row col))
+        ∙ sym (ap (λ n. join y (joinUpto n (passedIn t ws at low high row))) (add-one col))
 
     -- a cell of less worth is passed over
-    pub row-less : (best : Cell) → low ≤ col → col < high → keyOf best ≡ join y (joinUpto col (admittedIn ss ws at low high row))
+    pub row-less : (best : Cell) → low ≤ col → col < high → keyOf best ≡ join y (joinUpto col (passedIn t ws at low high row))
         → getD ws (2 * (at + col)) 0 < best .worth
-        → keyOf best ≡ join y (joinUpto (col + 1) (admittedIn ss ws at low high row))
+        → keyOf best ≡ join y (joinUpto (col + 1) (passedIn t ws at low high row))
     unfolding cellAt
     row-less best l k e h =
-        row-next l k e
-        (not-taken (admitsAll ss (gridFrom ss row col)) (keyOf best) (keyOf (cellAt ws (at + col))) (kept-less best (cellAt ws (at + col)) h))
+        row-next l k e (not-taken (t row col) (keyOf best) (keyOf (cellAt ws (at + col))) (kept-less best (cellAt ws (at + col)) h))
 
     -- past the stretch
-    pub row-past : {x : Option Key} (width : ℕ) → high ≤ col → high ≤ width → x ≡ join y (joinUpto col (admittedIn ss ws at low high row))
-        → x ≡ join y (joinUpto width (admittedIn ss ws at low high row))
+    pub row-past : {x : Option Key} (width : ℕ) → high ≤ col → high ≤ width → x ≡ join y (joinUpto col (passedIn t ws at low high row))
+        → x ≡ join y (joinUpto width (passedIn t ws at low high row))
     row-past width l k e =
-        e ∙ ap (join y) (upto-ends (admittedIn ss ws at low high row) high col l admitted-high ∙ sym (upto-ends (admittedIn ss ws at low high row) high width k admitted-high))
+        e ∙ ap (join y) (upto-ends (passedIn t ws at low high row) high col l passed-high ∙ sym (upto-ends (passedIn t ws at low high row) high width k passed-high))
+
+-- the key of a cell of the stretch is coded, as the row's are
+pub cell-in-row : (b : Problem) (ws : List ℕ) (at low high col : ℕ) → RowCoded b ws at low high → low ≤ col → col < high → Coded b (keyOf (cellAt ws (at + col)))
+cell-in-row b ws at low high col h l k = rw (held-in ws at low high col l k) at (h col k)

@@ -1,18 +1,24 @@
-// The last step of the planner: the best cell of the last layer that every slot admits.
+// The last step of the planner: the best cell of the last layer that passes a test.
 use grid::Grid;
 use model::Book;
 use table::Cell;
 ghost use mathlib.Core.Path.{_≡_};
-ghost use mathlib.Core.Bool.{cond};
-ghost use mathlib.Core.Option.{none};
 ghost use Prim.Native.Nat.{ℕ, _+_, _*_, _<_, _≤_};
 ghost use lib.ListN.{length};
-ghost use Rattle.model.specs.Cells.{join, joinUpto, admitsAll};
-ghost use Rattle.model.specs.Index.{gridFrom};
+ghost use Rattle.model.specs.Cells.{join, joinUpto, passing};
+ghost use Rattle.model.specs.Values.{Held, IsCode, problemOf};
 ghost use Rattle.table.specs.Table.{cellAt, keyOf};
 ghost use Rattle.stretch.specs.Stretch.{GridFits, StretchesFit};
 ghost use Rattle.admits.specs.Admits.{SlotsHeld};
-ghost use Rattle.scan.specs.Scan.{Better, admittedIn, bestOfLayer};
+ghost use Rattle.scan.specs.Scan.{Better, testOf, passedIn, bestOfLayer, Coded, RowCoded, LayerCoded};
+
+// The test that a cell of the last layer must pass.
+pub enum Test {
+    // The plain planner's: every slot admits the cell's pairs.
+    Admission,
+    // The strict planner's (document 02, M-109): the true sums of the cell's own choice keep every limit.
+    TrueSums,
+}
 
 // Whether a cell is better than the best so far: greater worth, then smaller code. An empty cell is not.
 fn beats(c: Cell, best: Cell) -> bool
@@ -27,7 +33,24 @@ fn beats(c: Cell, best: Cell) -> bool
     best.worth < c.worth
 }
 
-// The best so far after the cell x, of a row and a column. Admission is the dear test, and comes last.
+// Whether the cell of a row and a column, which holds a choice's code, passes the test.
+fn passes(code: u64, row: usize, col: usize, grid: Grid, book: Book, test: Test) -> bool
+    requires { ⌜ Held book ⌝ }
+    requires { ⌜ SlotsHeld grid (book .count) (book .limits) ⌝ }
+    requires { ⌜ IsCode (problemOf book) code ⌝ }
+    ensures { λ r. ⌜ ((h : SlotsHeld grid (book .count) (book .limits)) (worth : ℕ)
+        → r ≡ testOf test (h .laid .slots) (problemOf book) row col (record { worth = worth; code = code })) ⌝ }
+{
+    match test {
+        Test::Admission => {
+            let limits = book.limits;
+            admits::admits_cell(row, col, grid, book.count as u64, limits)
+        }
+        Test::TrueSums => limits::keeps_code(book, code),
+    }
+}
+
+// The best so far after the cell x, of a row and a column. The test is dear, and comes last.
 fn better_at(
     work: &[u64],
     x: usize,
@@ -35,19 +58,21 @@ fn better_at(
     row: usize,
     col: usize,
     grid: Grid,
-    count: u64,
-    limits: [u64; Book::SLOTS],
+    book: Book,
+    test: Test,
 ) -> Cell
     requires { ⌜ 2 * x + 1 < length (now work) ⌝ }
-    requires { ⌜ SlotsHeld grid count limits ⌝ }
-    ensures { λ r. ⌜ ((h : SlotsHeld grid count limits)
-        → keyOf r ≡ join (keyOf best) (cond (admitsAll (h .laid .slots) (gridFrom (h .laid .slots) row col)) (keyOf (cellAt (now (work .entry)) x)) none)) ⌝ }
+    requires { ⌜ Held book ⌝ }
+    requires { ⌜ SlotsHeld grid (book .count) (book .limits) ⌝ }
+    requires { ⌜ Coded (problemOf book) (keyOf (cellAt (now work) x)) ⌝ }
+    ensures { λ r. ⌜ ((h : SlotsHeld grid (book .count) (book .limits))
+        → keyOf r ≡ join (keyOf best) (passing (testOf test (h .laid .slots) (problemOf book) row col) (keyOf (cellAt (now (work .entry)) x)))) ⌝ }
 {
     let c = table::get(work, x);
     if !beats(c, best) {
         return best;
     }
-    if admits::admits_cell(row, col, grid, count, limits) {
+    if passes(c.code, row, col, grid, book, test) {
         return c;
     }
     best
@@ -62,42 +87,46 @@ fn scan_row(
     row: usize,
     first: Cell,
     grid: Grid,
-    count: u64,
-    limits: [u64; Book::SLOTS],
+    book: Book,
+    test: Test,
 ) -> Cell
     requires { ⌜ 2 * (at + high) ≤ length (now work) ⌝ }
-    requires { ⌜ SlotsHeld grid count limits ⌝ }
-    ensures { λ r. ⌜ ((h : SlotsHeld grid count limits) (width : ℕ) → high ≤ width
-        → keyOf r ≡ join (keyOf first) (joinUpto width (admittedIn (h .laid .slots) (now (work .entry)) at low high row))) ⌝ }
+    requires { ⌜ Held book ⌝ }
+    requires { ⌜ SlotsHeld grid (book .count) (book .limits) ⌝ }
+    requires { ⌜ RowCoded (problemOf book) (now work) at low high ⌝ }
+    ensures { λ r. ⌜ ((h : SlotsHeld grid (book .count) (book .limits)) (width : ℕ) → high ≤ width
+        → keyOf r ≡ join (keyOf first) (joinUpto width (passedIn (testOf test (h .laid .slots) (problemOf book)) (now (work .entry)) at low high row))) ⌝ }
 {
     let mut best = first;
     let mut col = low;
     while col < high {
         let worth = work[2 * (at + col)];
         if best.worth <= worth {
-            best = better_at(work, at + col, best, row, col, grid, count, limits);
+            best = better_at(work, at + col, best, row, col, grid, book, test);
         }
         col += 1;
     }
     best
 }
 
-// The best admitted cell of the layer at `cur`; empty where no cell is admitted.
+// The best cell of the layer at `cur` that passes the test; empty where none does.
 pub fn scan(
     work: &[u64],
     grid: Grid,
     cur: usize,
     lows: &[usize; Grid::ROWS],
     highs: &[usize; Grid::ROWS],
-    count: u64,
-    limits: [u64; Book::SLOTS],
+    book: Book,
+    test: Test,
 ) -> Cell
     requires { ⌜ GridFits grid ⌝ }
     requires { ⌜ 2 * (cur + grid .cells) ≤ length (now work) ⌝ }
     requires { ⌜ StretchesFit (now lows) (now highs) grid ⌝ }
-    requires { ⌜ SlotsHeld grid count limits ⌝ }
-    ensures { λ r. ⌜ ((h : SlotsHeld grid count limits)
-        → keyOf r ≡ bestOfLayer (h .laid .slots) (now (work .entry)) (now (lows .entry)) (now (highs .entry)) grid cur) ⌝ }
+    requires { ⌜ Held book ⌝ }
+    requires { ⌜ SlotsHeld grid (book .count) (book .limits) ⌝ }
+    requires { ⌜ LayerCoded (problemOf book) (now work) (now lows) (now highs) grid cur ⌝ }
+    ensures { λ r. ⌜ ((h : SlotsHeld grid (book .count) (book .limits))
+        → keyOf r ≡ bestOfLayer (testOf test (h .laid .slots) (problemOf book)) (now (work .entry)) (now (lows .entry)) (now (highs .entry)) grid cur) ⌝ }
 {
     let rows = grid.rows;
     let width = grid.width;
@@ -114,8 +143,8 @@ pub fn scan(
             row,
             best,
             grid,
-            count,
-            limits,
+            book,
+            test,
         );
         row += 1;
     }

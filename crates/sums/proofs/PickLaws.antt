@@ -1,22 +1,24 @@
--- The choice whose numbers are in an array, load by load: its sums, worth and code.
+-- The choice whose numbers are in an array, load by load: its sums, worth and code; and the digits of a code.
 -- Assumes nothing.
 use mathlib.Core.Path.{_≡_, refl, sym, ap, ap₂, subst, _∙_}
-use mathlib.Core.List.{List, [], _∷_, map, map-append}
-use Prim.Native.Nat.{ℕ, zero, suc, _+_, _-_, _*_, _^_, _<_, _≤_}
+use mathlib.Core.List.{List, [], _∷_, _++_, map, map-append, append-assoc}
+use Prim.Native.Nat.{ℕ, zero, suc, _+_, _-_, _*_, _/_, _%_, _^_, _<_, _≤_}
 use native.Mathlib.Nat.{zero-add, add-zero, le-trans, pow-zero, pow-succ', pow-le-pow-right}
 use native.Mathlib.Numerals.{add-one}
 use native.Mathlib.Omega.{arith}
-use lib.ListN.{length, getD}
+use lib.ListN.{length, getD, take, set}
+use lib.Seq.{take-suc-set}
 use Rattle.model.specs.declared.Load.{Load}
 use Rattle.model.specs.declared.Book.{Book}
 use Rattle.model.specs.Lists.{Mem, Every, uptoFrom, upto}
 use Rattle.model.specs.Book.{Setting, Settings, Problem}
-use Rattle.model.specs.Choice.{Choice, IsChoice, worthOf, codeOf, settingOf}
+use Rattle.model.specs.Choice.{Choice, IsChoice, worthOf, codeOf, decode, settingOf}
 use Rattle.model.specs.Valid.{SettingSmall, ValidBook}
-use Rattle.model.specs.Values.{Held, problemOf, loadValue, pickOf, choiceOf, Picked}
+use Rattle.model.specs.Values.{Held, IsCode, problemOf, loadValue, pickOf, choiceOf, Picked}
 use Rattle.model.specs.Bounds.{mostLoads}
 use Rattle.model.proofs.ListLaws.{every-imp, every-image}
 use Rattle.model.proofs.UptoLaws.{suc-across, upto-last, length-upto, getD-upto}
+use Rattle.model.proofs.CodeLaws.{code-picked, code-choice}
 use Rattle.model.proofs.ChoiceLaws.{snoc, worth-last, worth-most}
 use Rattle.model.proofs.NumberLaws.{setting-small, offered-mem, offered-number, offered-few}
 use Rattle.model.proofs.ValidLaws.{load-labelled}
@@ -58,6 +60,13 @@ code-of : (picks : List ℕ) (f : ℕ → Setting) (i n m : ℕ) → i + n ≡ m
 code-of picks f i zero m e h = refl
 code-of picks f i (suc n) m e h =
     ap₂ (λ x y. x + 4 * y) (sym (h i (omega arith))) (code-of picks f (suc i) n m (omega arith) h)
+
+-- ---- the digits of a code, one after the other
+
+pub decode-more : (picks : List ℕ) (k m rest : ℕ) (all : List ℕ) → k < length picks
+    → take k picks ++ decode (suc m) rest ≡ all → take (k + 1) (set picks k (rest % 4)) ++ decode m (rest / 4) ≡ all
+decode-more picks k m rest all h e =
+    rw (add-one, take-suc-set) (append-assoc (take k picks) (rest % 4 ∷ []) (decode m (rest / 4)) ∙ e)
 
 -- ---- a choice of the loads
 
@@ -162,3 +171,15 @@ module _ (book : Book) (h : Held book) (picks : List ℕ) (picked : Picked (prob
   held-code k e =
       let all : book .count - k ≡ length (problemOf book .loads) = omega (arith, held-count book h) in
       ap₂ (codeFrom picks) e all ∙ code-is (problemOf book) picks (held-valid book h) picked
+
+-- the numbers of a choice's code are those of its settings
+module _ (book : Book) (h : Held book) {code : ℕ} (coded : IsCode (problemOf book) code) (picks : List ℕ)
+    (digits : take (book .count) picks ≡ decode (book .count) code) where
+  all-digits : take (length (problemOf book .loads)) picks ≡ decode (length (problemOf book .loads)) (codeOf (coded .choice))
+  all-digits = ap (λ n. take n picks) (sym (held-count book h)) ∙ digits ∙ ap₂ decode (held-count book h) (coded .is)
+
+  pub held-code-picked : Picked (problemOf book) picks
+  held-code-picked = code-picked (problemOf book) (held-valid book h) (coded .choice) (coded .of-book) picks all-digits
+
+  pub held-code-choice : choiceOf (problemOf book) picks ≡ coded .choice
+  held-code-choice = code-choice (problemOf book) (held-valid book h) (coded .choice) (coded .of-book) picks all-digits

@@ -1,7 +1,10 @@
-// The true sums of a choice in each slot, its worth and its code, as running values.
+// The true sums of a choice in each slot, its worth and its code, as running values; and the numbers of a code.
 ghost use mathlib.Core.Path.{_≡_};
 ghost use mathlib.Core.List.{[]};
-ghost use Rattle.model.specs.Choice.{worthOf, codeOf};
+ghost use Prim.Native.Nat.{_≤_};
+ghost use lib.ListN.{take};
+ghost use Rattle.model.specs.Bounds.{mostLoads};
+ghost use Rattle.model.specs.Choice.{worthOf, codeOf, decode};
 ghost use Rattle.model.specs.Values.{Held, Picked, choiceOf, problemOf};
 ghost use Rattle.sums.specs.Sums.{sumsValue, shifted, added, exchanged, CanShift, CanAdd, CanExchange};
 use model::Book;
@@ -121,4 +124,20 @@ pub fn code_of(book: Book, picks: [usize; Book::LOADS]) -> u64
         code = picks[k] as u64 + 4 * code;
     }
     code
+}
+
+// c of each load, from the code of a choice: its digits to the base 4, the lowest first.
+pub fn picks_of(code: u64, count: usize) -> [usize; Book::LOADS]
+    requires { ⌜ count ≤ mostLoads ⌝ }
+    ensures { λ r. ⌜ take count r ≡ decode count code ⌝ }
+{
+    let mut picks = [0usize; Book::LOADS];
+    let mut rest = code;
+    let mut k: usize = 0;
+    while k < count {
+        picks[k] = (rest % 4) as usize;
+        rest = rest / 4;
+        k += 1;
+    }
+    picks
 }

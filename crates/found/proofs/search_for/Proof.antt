@@ -1,10 +1,10 @@
--- `found::search_for` meets its contract: the search runs over the book's table, and the scan finds the plan. Assumes nothing.
+-- `found::search_for` meets its contract: the search runs over the book's table, and the scan finds the plan of its test. Assumes nothing.
 use native.Mathlib.Omega.{arith}
 use borrow.Author.Needs.{needs}
 use Rattle.grid.proofs.SlotLaws.{laid}
 use Rattle.search.specs.Search.{Modelled}
 use Rattle.search.proofs.ModelLaws.{grid-fits}
-use Rattle.found.proofs.SearchLaws.{scanned, model, layer-room, words-enough, words-kept, found-over, found-within}
+use Rattle.found.proofs.SearchLaws.{scanned, model, layer-room, words-enough, words-kept, layer-coded, found-over, found-within}
 use Rattle.found.proofs.search_for.Statement.{statement}
 use Rattle.found.proofs.search_for.Tie as tie
 
@@ -34,20 +34,29 @@ returns c =
     let l = c .before .before .before .before .before .loads-of in
     let loads = l .ensures (laid (s .args .book) (p .0) (s .args .grid) (p .1 .0)) in
     let r = c .before .before .before .search in (
-      found-over (s .args .book) (p .0) (s .args .grid) (p .1 .0) (l .result) loads _ _ _ _ _
+      found-over (s .args .book) (p .0) (s .args .grid) (p .1 .0) (l .result) loads (s .args .test) _ _ _ _ _
           (r .ensures .1 .1 (model (s .args .book) (p .0) (s .args .grid) (p .1 .0) (l .result) loads)) (c .if1 .taken) _ 0,
       words-kept (s .args .book) (p .0) (s .args .grid) (p .1 .0) _ _ _ _ _ (r .ensures .1 .0) (r .ensures .0),
     )
 
 scan-requires : tie.Need-scan-requires
+unfolding laid
 scan-requires c κs =
-    let s = c .before .before .before .before .before .before .before .before .before .before .before .before .before in
+    let s = c .before .before .before .before .before .before .before .before .before .before .before .before in
     let p = s .pre in
-    let q = c .before .before .before .before .before .before .before .before .before .search .ensures .1 .0 in (
-      grid-fits (modelled (c .before .before .before .before .before .before .before .before .before .before .before)),
+    let l = c .before .before .before .before .before .before .before .before .before .before .loads-of in
+    let loads = l .ensures (laid (s .args .book) (p .0) (s .args .grid) (p .1 .0)) in
+    let m = model (s .args .book) (p .0) (s .args .grid) (p .1 .0) (l .result) loads in
+    let r = c .before .before .before .before .before .before .before .before .search .ensures .1 in
+    let q = r .0 in
+    let w = r .1 m .within (omega (arith, c .before .before .before .before .before .if1 .left)) in (
+      grid-fits m,
       (
         layer-room q (words-enough (s .args .book) (p .0) (s .args .grid) (p .1 .0) (s .args .work .now) (p .1 .1)),
-        (record { low-fits = q .low-fits; high-fits = q .high-fits }, scanned (s .args .book) (p .0) (s .args .grid) (p .1 .0)),
+        (
+          record { low-fits = q .low-fits; high-fits = q .high-fits },
+          (p .0, (scanned (s .args .book) (p .0) (s .args .grid) (p .1 .0), layer-coded (s .args .book) (p .0) (s .args .grid) (p .1 .0) (l .result) loads _ _ _ _ (w .1))),
+        ),
       ),
     )
 
@@ -57,14 +66,13 @@ same-length-2 c = search needs
 returns-2 : tie.Need-returns-2
 unfolding laid
 returns-2 c =
-    let s = c .before .before .before .before .before .before .before .before .before .before .before .before .before .before .before in
+    let s = c .before .before .before .before .before .before .before .before .before .before .before .before .before .before in
     let p = s .pre in
-    let l = c .before .before .before .before .before .before .before .before .before .before .before .before .before .loads-of in
+    let l = c .before .before .before .before .before .before .before .before .before .before .before .before .loads-of in
     let loads = l .ensures (laid (s .args .book) (p .0) (s .args .grid) (p .1 .0)) in
-    let r = c .before .before .before .before .before .before .before .before .before .before .before .search in (
-      found-within (s .args .book) (p .0) (s .args .grid) (p .1 .0) (l .result) loads _ _ _ _ _ _
-          (r .ensures .1 .1 (model (s .args .book) (p .0) (s .args .grid) (p .1 .0) (l .result) loads))
-          (omega (arith, c .before .before .before .before .before .before .before .before .if1 .left)) (c .before .scan .ensures),
+    let r = c .before .before .before .before .before .before .before .before .before .before .search in (
+      found-within (s .args .book) (p .0) (s .args .grid) (p .1 .0) (l .result) loads (s .args .test) _ _ _ _ _ (c .before .scan .ensures) _
+          (r .ensures .1 .1 (model (s .args .book) (p .0) (s .args .grid) (p .1 .0) (l .result) loads)) (omega (arith, c .before .before .before .before .before .before .before .if1 .left)),
       words-kept (s .args .book) (p .0) (s .args .grid) (p .1 .0) _ _ _ _ _ (r .ensures .1 .0) (r .ensures .0),
     )
 

@@ -10,6 +10,7 @@ use Rattle.model.proofs.AnswerLaws.{writes-same}
 use Rattle.model.proofs.SheetGivenLaws.{answered-as}
 use Rattle.model.proofs.DemandLaws.{demand3}
 use Rattle.model.proofs.ReadingLaws.{reading-held, reading-done, reading-refused}
+use Rattle.scan.specs.declared.Test.the-variants.{Admission}
 use Rattle.planner.specs.Planner.{fittedPlan}
 use Rattle.planner.proofs.CallLaws.{planner-is, free-is}
 use borrow.Author.Needs.{needs}
@@ -27,7 +28,7 @@ returns c =
     let room = length (a .sheet .now) in
     let w : Writes (plannerResult (a .book .now) words room) (a .sheet .now) _ _
     = writes-same (sym (planner-is (a .book .now) words room))
-    (reading-refused (a .book .now) (r .result) (r .ensures) (fittedPlan words room) (a .sheet .now) (c .if1 .taken)) in (
+    (reading-refused (a .book .now) (r .result) (r .ensures) (fittedPlan Admission words room) (a .sheet .now) (c .if1 .taken)) in (
       w,
       (record { same-length = refl; kept = refl }, (answered-as (a .book .now) words room _ (w .answers), λ z. absurd (c .if1 .taken z))),
     )
@@ -51,7 +52,7 @@ returns-2 c =
     let words = length (a .work .now) in
     let room = length (a .sheet .now) in
     let z = c .before .before .before .before .before .before .before .if1 .left in
-    let e = reading-done (a .book .now) (r .result) (r .ensures) (fittedPlan words room) z ∙ sym (planner-is (a .book .now) words room) in
+    let e = reading-done (a .book .now) (r .result) (r .ensures) (fittedPlan Admission words room) z ∙ sym (planner-is (a .book .now) words room) in
     let f = reading-done (a .book .now) (r .result) (r .ensures) (fitting words room) z in
     let w : Writes (plannerResult (a .book .now) words room) (a .sheet .now) _ _ = writes-same e (b .0) in (
       w,

@@ -10,6 +10,7 @@ use Rattle.model.proofs.AnswerLaws.{writes-same}
 use borrow.Author.Needs.{needs}
 use Rattle.grid.proofs.SlotLaws.{cells-capped}
 use Rattle.fits.proofs.SizeLaws.{fits-words, fits-room, fits-few}
+use Rattle.found.specs.Found.{planBy}
 use Rattle.planner.proofs.CallLaws.{size-refused}
 use Rattle.planner.proofs.plan_book.Statement.{statement}
 use Rattle.planner.proofs.plan_book.Tie as tie
@@ -35,7 +36,7 @@ returns : tie.Need-returns
 returns c =
     let a = c .before .before .before .before .before .before .before .before .args in
     let g = sym (c .before .before .before .before .size-finding .ensures) ∙ c .before .before .finding .given .1 in
-    size-refused (a .work .now) (a .sheet .now) (problemOf (a .book)) _ _ (c .refusal .ensures) (ap (λ f. checked 0 f (done (problemOf (a .book)))) g)
+    size-refused (a .test) (a .work .now) (a .sheet .now) (problemOf (a .book)) _ _ (c .refusal .ensures) (ap (λ f. checked 0 f (done (problemOf (a .book)))) g)
 
 enum-told : tie.Need-enum-told
 enum-told c = search needs
@@ -58,7 +59,7 @@ returns-2 c =
     let e = ap (λ f. checked 0 f (done (problemOf (a .book))))
     (passed (c .before .before .before .before .before .before .before .before .before) (c .before .before .before .before .before .before .before .enum-told .given .1)) in
     let p = c .before .before .before .before .plan-for .ensures in (
-      writes-same (ap (λ x. andThen x planSheet) (sym e)) (p .0),
+      writes-same (ap (λ x. andThen x (planSheet (planBy (a .test)))) (sym e)) (p .0),
       subst (λ n. WordsKept n (a .work .now) (c .before .before .before .before .plan-for .last .1 .1 .0)) (ap freeFor (sym e)) (p .1),
     )
 

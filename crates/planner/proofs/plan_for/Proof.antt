@@ -21,7 +21,7 @@ returns : tie.Need-returns
 returns c =
     let s = c .before .before .before .before .before .before .before .before .before in
     let f = c .before .before .before .before .before .search-for in
-    (refused-writes _ _ _ (s .args .sheet .now) _ (c .refusal .ensures) (plan-over _ (f .ensures .0 .over (not-true _ (c .before .if1 .taken)))), f .ensures .1)
+    (refused-writes _ _ _ (s .args .sheet .now) _ (c .refusal .ensures) (plan-over _ _ (f .ensures .0 .over (not-true _ (c .before .if1 .taken)))), f .ensures .1)
 
 refusal-requires-2 : tie.Need-refusal-requires-2
 refusal-requires-2 c κs = search needs
@@ -34,7 +34,7 @@ returns-2 c =
     let s = c .before .before .before .before .before .before .before .before .before .before .before in
     let f = c .before .before .before .before .before .before .before .search-for in
     let w = not-false _ (c .before .before .before .if1 .left) in
-    (refused-writes _ _ _ (s .args .sheet .now) _ (c .refusal2 .ensures) (plan-missing _ (f .ensures .0 .enough w) (f .ensures .0 .missing w (not-true _ (c .before .if2 .taken)))), f .ensures .1)
+    (refused-writes _ _ _ (s .args .sheet .now) _ (c .refusal2 .ensures) (plan-missing _ _ (f .ensures .0 .enough w) (f .ensures .0 .missing w (not-true _ (c .before .if2 .taken)))), f .ensures .1)
 
 picks-of-requires : tie.Need-picks-of-requires
 picks-of-requires c κs = held-few (c .before .before .before .before .before .before .before .before .before .before .args .book) (c .before .before .before .before .before .before .before .before .before .before .pre .0)
@@ -43,7 +43,7 @@ write-sheet-requires : tie.Need-write-sheet-requires
 write-sheet-requires c κs =
     let s = c .before .before .before .before .before .before .before .before .before .before .before .before in
     let f = c .before .before .before .before .before .before .before .before .search-for in
-    (s .pre .0, (found-picked (s .args .book) (s .pre .0) _ (f .ensures .0) (not-false _ (c .before .before .before .before .if1 .left)) (not-false _ (c .before .before .if2 .left)) _ (c .before .picks-of .ensures), s .pre .1 .1 .1))
+    (s .pre .0, (found-picked (s .args .test) (s .args .book) (s .pre .0) _ (f .ensures .0) (not-false _ (c .before .before .before .before .if1 .left)) (not-false _ (c .before .before .if2 .left)) _ (c .before .picks-of .ensures), s .pre .1 .1 .1))
 
 same-length-3 : tie.Need-same-length-3
 same-length-3 c = search needs
@@ -55,7 +55,7 @@ returns-3 : tie.Need-returns-3
 returns-3 c =
     let s = c .before .before .before .before .before .before .before .before .before .before .before .before .before .before .before in
     let f = c .before .before .before .before .before .before .before .before .before .before .before .search-for in
-    let e = found-sheet (s .args .book) (s .pre .0) _ (f .ensures .0) (not-false _ (c .before .before .before .before .before .before .before .if1 .left)) (not-false _ (c .before .before .before .before .before .if2 .left)) _ (c .before .before .before .before .picks-of .ensures) in
+    let e = found-sheet (s .args .test) (s .args .book) (s .pre .0) _ (f .ensures .0) (not-false _ (c .before .before .before .before .before .before .before .if1 .left)) (not-false _ (c .before .before .before .before .before .if2 .left)) _ (c .before .before .before .before .picks-of .ensures) in
     (writes-same e (c .before .before .write-sheet .ensures), f .ensures .1)
 
 pub plan-for-spec : {M : Type 1} → statement M

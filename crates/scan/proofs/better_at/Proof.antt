@@ -1,10 +1,9 @@
--- `scan::better_at` meets its contract: a better cell that is admitted takes the best's place. Assumes nothing.
-use mathlib.Core.Path.{_∙_, sym}
+-- `scan::better_at` meets its contract: a better cell that passes takes the best's place. Assumes nothing.
 use borrow.Author.Needs.{needs}
 use borrow.Author.Tests.{not-true, not-false}
-use Rattle.model.specs.Index.{gridFrom}
-use Rattle.model.specs.Cells.{admitsAll}
-use Rattle.scan.proofs.BestLaws.{best-kept, best-taken, best-refused}
+use Rattle.model.specs.Values.{problemOf}
+use Rattle.scan.specs.Scan.{testOf}
+use Rattle.scan.proofs.BestLaws.{better-coded, best-kept, best-taken, best-refused}
 use Rattle.scan.proofs.better_at.Statement.{statement}
 use Rattle.scan.proofs.better_at.Tie as tie
 
@@ -17,24 +16,28 @@ beats-requires c κs = search needs
 returns : tie.Need-returns
 returns c =
     let a = c .before .before .before .before .args in
-    λ h. best-kept (a .best) (c .before .before .get .ensures) (c .before .beats .ensures) (admitsAll (h .laid .slots) (gridFrom (h .laid .slots) (a .row) (a .col))) (not-true _ (c .if1 .taken))
+    λ h. best-kept (a .best) (c .before .before .get .ensures) (c .before .beats .ensures) (testOf (a .test) (h .laid .slots) (problemOf (a .book)) (a .row) (a .col)) (not-true _ (c .if1 .taken))
 
-admits-cell-requires : tie.Need-admits-cell-requires
-admits-cell-requires c κs = search needs
+passes-requires : tie.Need-passes-requires
+passes-requires c κs =
+    let s = c .before .before .before .before in
+    let p = s .pre .1 in (
+      p .0,
+      (p .1 .0, better-coded (s .args .best) (c .before .before .get .ensures) (c .before .beats .ensures) (problemOf (s .args .book)) (not-false _ (c .if1 .left)) (p .1 .1)),
+    )
 
 returns-2 : tie.Need-returns-2
 returns-2 c =
     let a = c .before .before .before .before .before .before .args in
-    λ h. best-taken (a .best) (c .before .before .before .before .get .ensures) (c .before .before .before .beats .ensures) _
-    (not-false _ (c .before .before .if1 .left)) (sym (c .before .admits-cell .ensures h) ∙ c .if2 .taken)
+    λ h. best-taken (a .best) (c .before .before .before .before .get .ensures) (c .before .before .before .beats .ensures) (testOf (a .test) (h .laid .slots) (problemOf (a .book)) (a .row) (a .col))
+    (c .before .passes .ensures h) (not-false _ (c .before .before .if1 .left)) (c .if2 .taken)
 
 returns-3 : tie.Need-returns-3
 returns-3 c =
     let a = c .before .before .before .before .before .before .args in
-    λ h. best-refused (a .best) (c .before .before .before .before .get .ensures) (c .before .before .before .beats .ensures) _
-    (sym (c .before .admits-cell .ensures h) ∙ c .if2 .left)
+    λ h. best-refused (a .best) (c .before .before .before .before .get .ensures) (c .before .before .before .beats .ensures) (testOf (a .test) (h .laid .slots) (problemOf (a .book)) (a .row) (a .col))
+    (c .before .passes .ensures h) (c .if2 .left)
 
 pub better-at-spec : {M : Type 1} → statement M
 better-at-spec =
-    tie.close
-    (tie.spec get-requires beats-requires returns admits-cell-requires returns-2 returns-3)
+    tie.close (tie.spec get-requires beats-requires returns passes-requires returns-2 returns-3)

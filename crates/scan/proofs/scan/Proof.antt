@@ -1,26 +1,28 @@
--- `scan::scan` meets its contract. The invariant: `best` is the best of the admitted cells of the rows before `row`. Assumes nothing.
+-- `scan::scan` meets its contract. The invariant: `best` is the best of the cells of the rows before `row` that pass. Assumes nothing.
 use mathlib.Core.Path.{_≡_}
 use Prim.Native.Nat.{_+_, _*_, _-_, _≤_}
 use native.Mathlib.Omega.{arith}
 use borrow.Author.Needs.{needs}
 use lib.ListN.{getD, length}
+use Rattle.model.specs.Values.{problemOf}
 use Rattle.table.specs.Table.{keyOf}
 use Rattle.admits.specs.Admits.{SlotsHeld}
-use Rattle.scan.proofs.ScanLaws.{bestOfRows, rows-none, rows-more, rows-all, row-room}
+use Rattle.scan.specs.Scan.{testOf}
+use Rattle.scan.proofs.ScanLaws.{bestOfRows, rows-none, rows-more, rows-all, row-coded, row-room}
 use Rattle.scan.proofs.scan.Statement.{statement}
 use Rattle.scan.proofs.scan.Tie as tie
 
 abbrev Inv-loop : tie.InvT-loop
-Inv-loop work grid cur lows highs count limits rows width best₀ row₀ best row =
-    (row ≤ rows) × ((h : SlotsHeld grid count limits) → keyOf best ≡ bestOfRows (h .laid .slots) work lows highs cur width row)
+Inv-loop work grid cur lows highs book test rows width best₀ row₀ best row =
+    (row ≤ rows) × ((h : SlotsHeld grid (book .count) (book .limits)) → keyOf best ≡ bestOfRows (testOf test (h .laid .slots) (problemOf book)) work lows highs cur width row)
 
 abbrev μ-loop : tie.MeasureT-loop
-μ-loop work grid cur lows highs count limits rows width best₀ row₀ best row = rows - row
+μ-loop work grid cur lows highs book test rows width best₀ row₀ best row = rows - row
 
 loop-holds : tie.Need-loop-holds Inv-loop μ-loop
 loop-holds c =
     let a = c .before .args in
-    (omega arith, λ h. rows-none (h .laid .slots) (a .work .now) (a .lows .now) (a .highs .now) (a .cur) (a .grid .width))
+    (omega arith, λ h. rows-none (testOf (a .test) (h .laid .slots) (problemOf (a .book))) (a .work .now) (a .lows .now) (a .highs .now) (a .cur) (a .grid .width))
 
 mul-low : tie.Need-mul-low Inv-loop μ-loop
 mul-low c = omega (arith, c .before .before .before .pre .0 .rows-fit)
@@ -51,7 +53,13 @@ add-scan-row : tie.Need-add-scan-row Inv-loop μ-loop
 add-scan-row c = omega (arith, room c)
 
 scan-row-requires : tie.Need-scan-row-requires Inv-loop μ-loop
-scan-row-requires c κs = (room c, c .before .before .before .before .before .pre .1 .1 .1)
+scan-row-requires c κs =
+    let s = c .before .before .before .before .before in
+    let a = s .args in
+    let l = c .before .before .before .loop in
+    let t = c .before .before .loop-test .taken in
+    let p = s .pre .1 .1 in
+    (room c, (p .1 .0, (p .1 .1 .0, row-coded (problemOf (a .book)) (a .work .now) (a .lows .now) (a .highs .now) (a .grid) (a .cur) (l .row) (p .1 .1 .1) t (p .0 .high-fits (l .row) t))))
 
 add-row : tie.Need-add-row Inv-loop μ-loop
 add-row c = search needs
@@ -66,7 +74,7 @@ loop-again c =
     let l = c .before .before .before .before .loop in (
       omega arith,
       λ h.
-          rows-more (h .laid .slots) (a .work .now) (a .lows .now) (a .highs .now) (a .cur) (a .grid .width) (l .row) (l .inv .1 h)
+          rows-more (testOf (a .test) (h .laid .slots) (problemOf (a .book))) (a .work .now) (a .lows .now) (a .highs .now) (a .cur) (a .grid .width) (l .row) (l .inv .1 h)
           (c .scan-row .ensures h (a .grid .width) (s .pre .1 .1 .0 .high-fits (l .row) (c .before .before .before .loop-test .taken))),
     )
 
@@ -74,7 +82,7 @@ returns : tie.Need-returns Inv-loop μ-loop
 returns c =
     let a = c .before .before .before .args in
     let l = c .before .loop in
-    λ h. rows-all (h .laid .slots) (a .work .now) (a .lows .now) (a .highs .now) (a .grid) (a .cur) (l .row) (c .loop-test .left) (l .inv .0) (l .inv .1 h)
+    λ h. rows-all (testOf (a .test) (h .laid .slots) (problemOf (a .book))) (a .work .now) (a .lows .now) (a .highs .now) (a .grid) (a .cur) (l .row) (c .loop-test .left) (l .inv .0) (l .inv .1 h)
 
 pub scan-spec : {M : Type 1} → statement M
 scan-spec =

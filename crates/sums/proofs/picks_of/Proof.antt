@@ -1,4 +1,4 @@
--- `found::picks_of` meets its contract. The invariant: the digits so far, and then those of the rest. Assumes nothing.
+-- `sums::picks_of` meets its contract. The invariant: the digits so far, and then those of the rest. Assumes nothing.
 use Prim.Native.Nat.{suc, _+_, _-_, _≤_}
 use mathlib.Core.Path.{_≡_, refl, sym, ap, _∙_}
 use mathlib.Core.List.{_++_, append-nil}
@@ -8,9 +8,9 @@ use Rattle.model.specs.Bounds.{mostLoads}
 use Rattle.model.specs.Choice.{decode}
 use borrow.Author.Needs.{needs}
 use native.Mathlib.Omega.{arith}
-use Rattle.found.proofs.PickLaws.{decode-more}
-use Rattle.found.proofs.picks_of.Statement.{statement}
-use Rattle.found.proofs.picks_of.Tie as tie
+use Rattle.sums.proofs.PickLaws.{decode-more}
+use Rattle.sums.proofs.picks_of.Statement.{statement}
+use Rattle.sums.proofs.picks_of.Tie as tie
 
 abbrev Inv-loop : tie.InvT-loop
 Inv-loop code count picks₀ rest₀ k₀ picks rest k = (k ≤ count) × (length picks ≡ mostLoads) × (take k picks ++ decode (count - k) rest ≡ decode count code)

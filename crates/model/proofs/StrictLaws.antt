@@ -1,0 +1,161 @@
+-- What the strict planner promises (document 02, M-109): its plan keeps every limit and is the best of the compared choices that do; it is worth at least as much
+-- as every choice with the margin; the plain planner's is worth at least that. Then the same of the call.
+-- Assumes nothing.
+use mathlib.Core.Path.{_≡_, refl, sym, ap, _∙_, subst}
+use mathlib.Core.Bool.{Bool, true, false, _&&_}
+use mathlib.Core.Logic.{_⊎_, inl, inr, ⊎-elim}
+use mathlib.Core.List.{List, [], _∷_, _++_}
+use mathlib.Core.Option.{Option, none, some}
+use Prim.Native.Nat.{ℕ, _+_, _*_, _-_, _<_, _≤_}
+use native.Mathlib.Nat.{le-trans, le-max-left, mul-le-mul-right}
+use native.Mathlib.Omega.{arith}
+use lib.Dec as Dec
+use lib.IntN.{ℤ, pos, natAbs, _+ℤ_}
+use lib.ListN.{length, drop}
+use Rattle.model.specs.Lists.{keep, sameLists}
+use Rattle.model.specs.Book.{Problem, readBook}
+use Rattle.model.specs.Choice.{Choice, IsChoice, choices, worthOf, sumIn}
+use Rattle.model.specs.Grid.{Slot, slotsOf, keepsLimits, gridIn, gridsOf, spreadOf, times, better, best, NoBetter, plan}
+use Rattle.model.specs.Trials.{samePair}
+use Rattle.model.specs.Demand.{S, T, KeepsLimits}
+use Rattle.model.specs.Strict.{samePairs, compared, bestKeeping, strictPlan, Compared, IsStrictPlan, SomeKeeping, HasMargin}
+use Rattle.model.proofs.ListLaws.{both, each, map-each}
+use Rattle.model.proofs.AdmissionLaws.{slots-for, keeps-admitted, admitted-is, Rounded, rounded-choice}
+use Rattle.model.proofs.PlanLaws.{chosen-length, kept-sound, kept-best, kept-none, no-better, not-better, plan-none, plan-worth}
+use Rattle.model.proofs.IndexLaws.{pairs-eq, pairs-refl}
+use Rattle.model.proofs.ComparedLaws.{compared-is}
+use Rattle.model.proofs.DemandLaws.{slotIn, slots-each, keeps-is, abs-near, spread-small, as-squares}
+use Rattle.model.proofs.Overload as Overload
+
+-- ---- the strict plan
+
+-- the test of a compared choice, as the property has it
+better-than-pairs : (b : Problem) (c : Choice) → IsChoice (b .loads) c → Dec.T (compared (slotsOf b) (b .loads) c) → Compared b c
+better-than-pairs b c m t = record { choice = m; greatest = λ other l e. no-better other c (compared-is (slotsOf b) (b .loads) c .0 t other l e) }
+
+pairs-compared : (b : Problem) (c : Choice) → Compared b c → Dec.T (compared (slotsOf b) (b .loads) c)
+pairs-compared b c h = compared-is (slotsOf b) (b .loads) c .1 (λ d l e. not-better d c (h .greatest d l e))
+
+abbrev returnable : Problem → Choice → Bool
+returnable b c = keepsLimits (slotsOf b) c && compared (slotsOf b) (b .loads) c
+
+of-keeping : (b : Problem) (c : Choice) → Compared b c → KeepsLimits b c → Dec.T (returnable b c)
+of-keeping b c h k = each (keepsLimits (slotsOf b) c) (compared (slotsOf b) (b .loads) c) (keeps-is b c .1 k) (pairs-compared b c h)
+
+-- THE STRICT PLAN, in the request's words
+pub strict-is : (b : Problem) (c : Choice) → strictPlan b ≡ some c → IsStrictPlan b c
+unfolding strictPlan bestKeeping
+strict-is b c e =
+    let sound : IsChoice (b .loads) c × Dec.T (returnable b c) = kept-sound (returnable b) (b .loads) c e in
+    let parts : Dec.T (keepsLimits (slotsOf b) c) × Dec.T (compared (slotsOf b) (b .loads) c)
+    = both (keepsLimits (slotsOf b) c) (compared (slotsOf b) (b .loads) c) (sound .1) in
+    record {
+      compared = better-than-pairs b c (sound .0) (parts .1);
+      keeps = keeps-is b c .0 (parts .0);
+      greatest = λ other h k. no-better other c (kept-best (returnable b) (b .loads) c e other (h .choice) (of-keeping b other h k));
+    }
+
+-- where there is none, none of the compared choices fits
+pub strict-none : (b : Problem) → strictPlan b ≡ none → SomeKeeping b → ⊥
+unfolding strictPlan bestKeeping
+strict-none b e h = kept-none (returnable b) (b .loads) e (h .choice) (h .compared .choice) (of-keeping b (h .choice) (h .compared) (h .keeps))
+
+-- ---- the margin
+
+-- each choice has a compared one with its pairs, and that is worth at least as much
+record SamePairs (b : Problem) (c : Choice) : Type 0 where
+  pub choice : Choice
+  pub compared : Compared b choice
+  pub pairs : gridsOf (slotsOf b) choice ≡ gridsOf (slotsOf b) c
+  pub worth : worthOf c ≤ worthOf choice
+
+with-pairs : (b : Problem) (c : Choice) → IsChoice (b .loads) c → SamePairs b c
+with-pairs b c m = go (best (keep same (choices (b .loads)))) refl
+  where
+    same : Choice → Bool
+    same d = samePairs (slotsOf b) c d
+
+    go : (x : Option Choice) → best (keep same (choices (b .loads))) ≡ x → SamePairs b c
+    go none e = absurd (kept-none same (b .loads) e c m (pairs-refl (gridsOf (slotsOf b) c)))
+    go (some d) e =
+        let sound : IsChoice (b .loads) d × Dec.T (same d) = kept-sound same (b .loads) d e in
+        let q : gridsOf (slotsOf b) c ≡ gridsOf (slotsOf b) d = pairs-eq (gridsOf (slotsOf b) c) (gridsOf (slotsOf b) d) (sound .1) in
+        record {
+          choice = d;
+          compared = record {
+            choice = sound .0;
+            greatest = λ other l p.
+                no-better other d
+                (kept-best same (b .loads) d e other l
+                (subst (λ g. Dec.T (sameLists samePair (gridsOf (slotsOf b) c) g)) (sym (p ∙ sym q)) (pairs-refl (gridsOf (slotsOf b) c))));
+          };
+          pairs = sym q;
+          worth = ⊎-elim (λ l. omega arith) (λ t. omega (arith, t .0)) (no-better c d (kept-best same (b .loads) d e c m (pairs-refl (gridsOf (slotsOf b) c))));
+        }
+
+-- the true sums of two choices with one grid pair lie at most e apart
+record Apart (s : Slot) (c d : Choice) : Type 0 where
+  pub active : sumIn (s .place) d .p ≤ sumIn (s .place) c .p + spreadOf s
+  pub reactive : natAbs (sumIn (s .place) d .q) ≤ natAbs (sumIn (s .place) c .q) + spreadOf s
+
+apart : (s : Slot) (c d : Choice) → 0 < s .step → length c ≤ s .loads → length d ≤ s .loads → gridIn s d ≡ gridIn s c → Apart s c d
+apart s c d h n m e =
+    let x : Rounded (s .step) (length c * (s .step - 1)) (sumIn (s .place) c) (gridIn s c) = rounded-choice s h c in
+    let y : Rounded (s .step) (length d * (s .step - 1)) (sumIn (s .place) d) (gridIn s c)
+    = subst (Rounded (s .step) (length d * (s .step - 1)) (sumIn (s .place) d)) e (rounded-choice s h d) in
+    let few : x .j ≤ spreadOf s = le-trans (x .j-fits) (mul-le-mul-right (s .step - 1) n) in
+    let fed : y .j ≤ spreadOf s = le-trans (y .j-fits) (mul-le-mul-right (s .step - 1) m) in
+    record {
+      active = omega (arith, x .p-is, y .p-is, le-trans (y .i-fits) (mul-le-mul-right (s .step - 1) m));
+      reactive =
+          subst (λ z. natAbs (sumIn (s .place) d .q) ≤ natAbs z + spreadOf s) (sym (x .q-is))
+          (subst (λ z. natAbs z ≤ natAbs (times (gridIn s c .q) (s .step) +ℤ pos (x .j)) + spreadOf s) (sym (y .q-is))
+          (abs-near (gridIn s c .q) (s .step) (spreadOf s) (y .j) (x .j) fed few));
+    }
+
+-- a choice with the pairs of one that has the margin keeps every limit
+margin-keeps : (b : Problem) (c d : Choice) → 2 ≤ b .fineness → IsChoice (b .loads) c → IsChoice (b .loads) d → gridsOf (slotsOf b) d ≡ gridsOf (slotsOf b) c
+    → HasMargin b c → KeepsLimits b d
+margin-keeps b c d two m l e h slot k =
+    let s : Slot = slotIn b slot in
+    let near : Apart s c d
+    = apart s c d (le-max-left 1 _) (omega (arith, chosen-length (b .loads) c m)) (omega (arith, chosen-length (b .loads) d l))
+    (slots-each (λ x. gridIn x d ≡ gridIn x c) b .0 (map-each (λ x. gridIn x d) (λ x. gridIn x c) (slotsOf b) e) slot k) in
+    Overload.margin (sumIn slot d .p) (natAbs (sumIn slot d .q)) (sumIn slot c .p) (natAbs (sumIn slot c .q)) (spreadOf s) (near .active) (near .reactive)
+    (b .fineness) (S b slot) two (spread-small (length (b .loads)) (b .fineness) (b .ratio) slot (S b slot))
+    (subst (λ x. b .fineness * b .fineness * x ≤ (b .fineness - 2) * (b .fineness - 2) * (S b slot * S b slot)) (as-squares slot c) (h slot k))
+    _ (as-squares slot d)
+
+module _ (b : Problem) (two : 2 ≤ b .fineness) (c : Choice) (m : IsChoice (b .loads) c) (h : HasMargin b c) where
+  keeping : (x : SamePairs b c) → KeepsLimits b (x .choice)
+  keeping x = margin-keeps b c (x .choice) two m (x .compared .choice) (x .pairs) h
+
+  -- THE MARGIN: there is a strict plan, of at least that worth
+  pub margin-some : strictPlan b ≡ none → ⊥
+  margin-some e =
+      let x : SamePairs b c = with-pairs b c m in
+      strict-none b e (record { choice = x .choice; compared = x .compared; keeps = keeping x })
+
+  pub margin-worth : (d : Choice) → strictPlan b ≡ some d → worthOf c ≤ worthOf d
+  margin-worth d e =
+      let x : SamePairs b c = with-pairs b c m in
+      let y : NoBetter (x .choice) d = strict-is b d e .greatest (x .choice) (x .compared) (keeping x) in
+      ⊎-elim (λ l. omega (arith, x .worth)) (λ t. omega (arith, t .0, x .worth)) y
+
+-- ---- beside the plain plan
+
+-- the plain planner has a plan too, of at least that worth
+pub plain-too : (b : Problem) (c : Choice) → strictPlan b ≡ some c → (d : Choice) × (plan b ≡ some d) × (worthOf c ≤ worthOf d)
+plain-too b c e = go (plan b) refl
+  where
+    m : IsChoice (b .loads) c
+    m = strict-is b c e .compared .choice
+
+    keeps : Dec.T (keepsLimits (slotsOf b) c)
+    keeps = keeps-is b c .1 (strict-is b c e .keeps)
+
+    go : (x : Option Choice) → plan b ≡ x → (d : Choice) × (plan b ≡ some d) × (worthOf c ≤ worthOf d)
+    go none q =
+        absurd (plan-none b q c m
+        (admitted-is (slotsOf b) c .0 (keeps-admitted (b .ratio) (length (b .loads)) (slotsOf b) (slots-for b) c (omega (arith, chosen-length (b .loads) c m)) keeps)))
+    go (some d) q = (d, q, plan-worth b d q c m keeps)

@@ -1,0 +1,2 @@
+-- Laws that the function's proof cites.
+pub mod CallLaws
