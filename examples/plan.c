@@ -1,10 +1,11 @@
 /*
  * plan.c - plans a load book and prints its sheet.
  *
- *     plan [-q] [BOOK]
+ *     plan [-q | -s] [BOOK]
  *
  * BOOK is a file; without it the book is read from standard input. -q takes the
- * quick planner. Exit status: 0 a sheet, 1 a refusal, 2 an error of this program.
+ * quick planner, -s the strict planner. Exit status: 0 a sheet, 1 a refusal, 2 an
+ * error of this program.
  */
 #include <errno.h>
 #include <stdio.h>
@@ -16,6 +17,10 @@
 
 /* Far more than the longest book, so that a faulty one gets the refusal of its fault. */
 enum { BOOK_ROOM = 65536 };
+
+/* The planner or the strict planner. */
+typedef jadeshuttle_answer (*planner)(const uint8_t *book, size_t book_len, uint64_t *work, size_t work_len,
+                                      uint8_t *sheet, size_t sheet_len);
 
 static int own_error(const char *name, const char *what)
 {
@@ -49,14 +54,14 @@ static int read_book(const char *name, uint8_t *buffer, size_t *length)
     return status;
 }
 
-/* The planner, with the work area that is large enough for every book. 0, or 2 where there is no memory. */
-static int run_planner(const uint8_t *book, size_t length, uint8_t *sheet, jadeshuttle_answer *answer)
+/* A planner with a work area, which is lent what is large enough for every book. 0, or 2 where there is no memory. */
+static int run_planner(planner run, const uint8_t *book, size_t length, uint8_t *sheet, jadeshuttle_answer *answer)
 {
     uint64_t *work = (uint64_t *)malloc(JADESHUTTLE_WORK_MAX * sizeof *work);
 
     if (work == NULL)
         return own_error("work area", "no memory");
-    *answer = jadeshuttle_plan(book, length, work, JADESHUTTLE_WORK_MAX, sheet, JADESHUTTLE_SHEET_MAX);
+    *answer = run(book, length, work, JADESHUTTLE_WORK_MAX, sheet, JADESHUTTLE_SHEET_MAX);
     free(work);
     return 0;
 }
@@ -69,7 +74,8 @@ static int reads_back(const uint8_t *book, size_t length, const uint8_t *sheet, 
     return reading.number == JADESHUTTLE_SUCCESS && reading.worth == answer.worth && reading.trials == answer.trials;
 }
 
-static int plan(int quick, const char *name)
+/* Plans with this planner; with the quick planner where there is none. */
+static int plan(planner run, const char *name)
 {
     static uint8_t book[BOOK_ROOM];
     uint8_t sheet[JADESHUTTLE_SHEET_MAX];
@@ -78,9 +84,9 @@ static int plan(int quick, const char *name)
 
     if (read_book(name, book, &length) != 0)
         return 2;
-    if (quick)
+    if (run == NULL)
         answer = jadeshuttle_quick(book, length, sheet, sizeof sheet);
-    else if (run_planner(book, length, sheet, &answer) != 0)
+    else if (run_planner(run, book, length, sheet, &answer) != 0)
         return 2;
     if (answer.number != JADESHUTTLE_SUCCESS) {
         print_refusal(answer.number, answer.line);
@@ -96,11 +102,12 @@ static int plan(int quick, const char *name)
 int main(int argc, char **argv)
 {
     int quick = argc > 1 && strcmp(argv[1], "-q") == 0;
-    int names = argc - 1 - quick;
+    int strict = argc > 1 && strcmp(argv[1], "-s") == 0;
+    int names = argc - 1 - quick - strict;
 
     if (names > 1 || (names == 1 && argv[argc - 1][0] == '-')) {
-        fputs("usage: plan [-q] [BOOK]\n", stderr);
+        fputs("usage: plan [-q | -s] [BOOK]\n", stderr);
         return 2;
     }
-    return plan(quick, names == 1 ? argv[argc - 1] : NULL);
+    return plan(quick ? NULL : strict ? jadeshuttle_plan_strict : jadeshuttle_plan, names == 1 ? argv[argc - 1] : NULL);
 }

@@ -29,6 +29,7 @@ static inline const char *refusal_word(uint64_t number)
     case JADESHUTTLE_NO_PLAN: return "no plan";
     case JADESHUTTLE_TOO_MANY_BOOKS: return "too many books";
     case JADESHUTTLE_OUTPUT_TOO_LONG: return "too long";
+    case JADESHUTTLE_TOO_COARSE: return "too coarse";
     default: return "unknown";
     }
 }

@@ -4,6 +4,8 @@
  * Each call takes a load book, or a day's books, and gives an answer by value:
  *
  *   jadeshuttle_plan        the planner: writes the sheet of the best plan
+ *   jadeshuttle_plan_strict the strict planner: writes the sheet of a plan that
+ *                           keeps every limit
  *   jadeshuttle_quick       the quick planner: level 1 only, smallest loads first
  *   jadeshuttle_read_sheet  the sheet reader: whether a sheet belongs to a book
  *   jadeshuttle_charge      the charge: what a sheet's energy costs
@@ -16,8 +18,8 @@
  * limits mean for a relay, how large a work area a book needs, what a price is,
  * which loads to name for an order, what each party learns from its view, which
  * loads draw while standing or must run, what can be done where a book has no plan,
- * how a day's books are handed over and their output is read back, and which motors
- * need a ratio above 1.
+ * how a day's books are handed over and their output is read back, which motors need
+ * a ratio above 1, and when to take the strict planner.
  *
  * THE BOOK  A header line of kind 01, or of kind 08 where it states a ratio r; then a
  * line for each load: of kind 02, of kind 06 for a load that draws while it stands, or
@@ -72,9 +74,9 @@
  *     refused book of a day is a line of the output.
  *   - The work area: with a sheet, refusal 12 or refusal 17, the first 4 x cells
  *     words hold anything, and the words past them keep their values. With refusals
- *     1 to 11 no word changes. With a day's output, and with refusal 19, the words
- *     keep their values that no book with a sheet, 12 or 17 needs; with refusal 18 no
- *     word changes.
+ *     1 to 11 and 20 no word changes. With a day's output, and with refusal 19, the
+ *     words keep their values that no book with a sheet, 12 or 17 needs; with refusal
+ *     18 no word changes.
  *   - The book never changes, nor does anything else that a call only reads.
  *
  * THREADS  There is no state. Calls may run at the same time in several threads,
@@ -82,9 +84,9 @@
  * `order`, `view`, and `out`. What is only read may be shared.
  *
  * STACK, HEAP  Nothing is allocated. Stack used by a call, as measured on x86-64
- * Linux: planner up to 79 KiB, day up to 84 KiB, as its output waits there until it is
- * known to fit, quick planner up to 57 KiB, sheet reader, charge, order and views up
- * to 35 KiB. Leave 128 KiB of stack for a call.
+ * Linux: planner and strict planner up to 87 KiB, day up to 92 KiB, as its output waits
+ * there until it is known to fit, quick planner up to 57 KiB, sheet reader, charge,
+ * order and views up to 35 KiB. Leave 128 KiB of stack for a call.
  *
  * ERRORS  A call always returns. It prints nothing, and sets no errno.
  */
@@ -110,11 +112,12 @@ extern "C" {
 
 /*
  * What `number` says. Lines are read in order, and on each line 1 to 7 are tried
- * in this order, as far as they concern it; then 8 to 17, but the 11 of an order or
- * a view comes last. The first that applies is given. `line` is the number of the
- * line in the book, from 1, for 1 to 8; it is 0 for success and from 9 on. The day
- * answers only 18, and then 19: what its books are refused with, 1 to 10, 12 and 17,
- * stands in its output. Each comment begins with the handbook's word.
+ * in this order, as far as they concern it; then 8 to 17, but the strict planner tries
+ * 20 right after 8, and the 11 of an order or a view comes last. The first that applies
+ * is given. `line` is the number of the line in the book, from 1, for 1 to 8; it is 0
+ * for success and from 9 on. The day answers only 18, and then 19: what its books are
+ * refused with, 1 to 10, 12 and 17, stands in its output. Each comment begins with the
+ * handbook's word.
  */
 enum jadeshuttle_number {
     JADESHUTTLE_SUCCESS = 0,
@@ -127,12 +130,12 @@ enum jadeshuttle_number {
     JADESHUTTLE_LOADS_OR_FINENESS_OUT_OF_RANGE = 6, /* beyond: N not 1 to 24, d not 1 to 64, or r not 1 to 3; line 1 */
     JADESHUTTLE_REACTIVE_EXCEEDS_ACTIVE = 7,        /* slack: |Q| > r x P in some slot of an option or of standing */
     JADESHUTTLE_TRAILING_BYTES = 8,                 /* trailing: bytes remain after the last load line; line N + 2 */
-    /* The planner only. */
+    /* The planner and the strict planner. */
     JADESHUTTLE_TOO_MANY_CELLS = 9,  /* oversize: cells over 1,048,576 */
     JADESHUTTLE_WORK_TOO_SMALL = 10, /* cramped: work area under 4 x cells words */
-    /* The planner, the quick planner, the order and the views. */
+    /* The three planners, the order and the views. */
     JADESHUTTLE_BUFFER_TOO_SMALL = 11, /* no sheet: buffer shorter than the sheet, the order or the view */
-    /* The planner only. */
+    /* The planner and the strict planner. */
     JADESHUTTLE_BUDGET_EXCEEDED = 12, /* spent: trials over the budget */
     /* The sheet reader, the charge, the order and the views. */
     JADESHUTTLE_FOREIGN_SHEET = 13, /* foreign: no choice and no trials number give this sheet for this book */
@@ -141,11 +144,14 @@ enum jadeshuttle_number {
     /* The order only. */
     JADESHUTTLE_WRONG_NAMES = 15,       /* names: not N of them, or one is neither 0 nor a higher load's number */
     JADESHUTTLE_NAMED_LOAD_STANDS = 16, /* blocked: a load that starts names one that stands in the new sheet */
-    /* The planner and the quick planner. */
-    JADESHUTTLE_NO_PLAN = 17, /* no plan: no choice is admitted; quick planner: what it begins with breaks a limit */
+    /* The three planners. */
+    JADESHUTTLE_NO_PLAN = 17, /* no plan: no choice is admitted; strict planner: none that it compares keeps the
+                                 limits; quick planner: what it begins with breaks a limit */
     /* The day only. */
-    JADESHUTTLE_TOO_MANY_BOOKS = 18, /* too many books: more than 32 */
-    JADESHUTTLE_OUTPUT_TOO_LONG = 19 /* too long: the output is longer than the buffer */
+    JADESHUTTLE_TOO_MANY_BOOKS = 18,  /* too many books: more than 32 */
+    JADESHUTTLE_OUTPUT_TOO_LONG = 19, /* too long: the output is longer than the buffer */
+    /* The strict planner only. */
+    JADESHUTTLE_TOO_COARSE = 20 /* too coarse: d is 1 */
 };
 
 /* What the planners, the views and the day answer. With a refusal, bytes, worth and trials are 0. */
@@ -216,6 +222,49 @@ typedef struct jadeshuttle_order_answer {
 jadeshuttle_answer jadeshuttle_plan(const uint8_t *book, size_t book_len,
                                     uint64_t *work, size_t work_len,
                                     uint8_t *sheet, size_t sheet_len);
+
+/*
+ * The strict planner: never above the limit. It takes what jadeshuttle_plan takes, and
+ * answers in the same form. A choice's grid pair in a slot is the sum of its P and the
+ * sum of its Q in steps of L, each P and Q rounded down before adding. The strict
+ * planner compares one choice for each list of grid pairs, one pair a slot: of the
+ * choices that have those pairs, the one of greatest worth, and among equals the one
+ * with the smallest code. Every choice runs the loads that must run. Of the compared
+ * choices, it writes the sheet of the best, by the same two rules, that has
+ * P*P + Q*Q <= S*S in every slot, with P and Q the true sums. The trials are the
+ * book's, as with jadeshuttle_plan.
+ *
+ * Gives 1 to 8; 20 where d is 1; 9 to 12; and then 17, exactly where none of these
+ * applies and none of the compared choices fits. That can be right though another
+ * choice with the pairs of a compared one fits, which is worth less, or as much and
+ * has a larger code.
+ *
+ * Of every sheet it gives, for each r:
+ *   - P*P + Q*Q <= S*S in every slot;
+ *   - no choice that has d*d * (P*P + Q*Q) <= (d-2)*(d-2) * S*S in every slot is worth
+ *     more;
+ *   - jadeshuttle_plan, with as many words and as long a buffer, gives a sheet too,
+ *     and it is worth at least as much.
+ * Where some choice has that margin, 17 is not given; in a book with 02 lines only, all
+ * standing has it.
+ *
+ * STRICT OR PLAIN  Where S must not be exceeded, as where it is a relay's setting, take
+ * this call, with d as large as the cells allow: the margin is 2/d of S. It may pass
+ * over a choice that keeps the limits and is worth more, and the coarser d is, the more
+ * such choices there can be. Where S was chosen so that (1 + 3/(2*d)) * S may flow,
+ * take jadeshuttle_plan, which passes over none of them. Where the sheet of
+ * jadeshuttle_plan keeps the limits, both give the same sheet.
+ *
+ * Words, and which of them are free afterwards, are as with jadeshuttle_plan; 20
+ * changes no word. Where jadeshuttle_plan asks whether a cell is admitted, this call
+ * adds up the true sums of the cell's choice. Measured on x86-64: four books of up to
+ * 17 million trials took 1.0 to 1.2 times as long as with jadeshuttle_plan, and the
+ * worst that were found, in which every cell has to be tested, 4 to 7 times. Nothing
+ * is promised about time.
+ */
+jadeshuttle_answer jadeshuttle_plan_strict(const uint8_t *book, size_t book_len,
+                                           uint64_t *work, size_t work_len,
+                                           uint8_t *sheet, size_t sheet_len);
 
 /*
  * The quick planner. Its start has the loads that must run at level 1 and all others

@@ -77,6 +77,7 @@ impl<T: BitXorAssign + From<u8> + Copy> Lent<T> {
 #[derive(Clone, Copy, Debug, PartialEq, Eq)]
 pub enum Function {
     Plan,
+    PlanStrict,
     Quick,
     ReadSheet,
     Charge,
@@ -106,6 +107,13 @@ impl<'a> Input<'a> {
             function: Function::Plan,
             words,
             ..Input::quick(book, sheet)
+        }
+    }
+
+    pub fn plan_strict(book: &'a [u8], words: &'a [u64], sheet: &'a [u8]) -> Input<'a> {
+        Input {
+            function: Function::PlanStrict,
+            ..Input::plan(book, words, sheet)
         }
     }
 
@@ -196,6 +204,7 @@ impl Call {
         let names = Lent::new(random, input.names, |random| random.below(25) as u8);
         let answer = match input.function {
             Function::Plan => crate::plan(book.part(), work.part_mut(), sheet.part_mut()).into(),
+            Function::PlanStrict => crate::plan_strict(book.part(), work.part_mut(), sheet.part_mut()).into(),
             Function::Quick => crate::quick(book.part(), sheet.part_mut()).into(),
             Function::ReadSheet => crate::read_sheet(book.part(), sheet.part()).into(),
             Function::Charge => crate::charge(book.part(), sheet.part(), prices.part()).into(),
@@ -274,7 +283,9 @@ impl Call {
         let [sheet, running, planned] =
             [&self.sheet, &self.running, &self.planned].map(|lent| lent.part().escape_ascii());
         match self.function {
-            Function::Plan | Function::Day => format!("{start}, {words} words, buffer of {bytes}"),
+            Function::Plan | Function::PlanStrict | Function::Day => {
+                format!("{start}, {words} words, buffer of {bytes}")
+            }
             Function::Quick => format!("{start}, buffer of {bytes}"),
             Function::ReadSheet => format!("{start}, sheet \"{sheet}\""),
             Function::Charge => format!("{start}, sheet \"{sheet}\", prices {:?}", self.prices.part()),

@@ -1,8 +1,9 @@
 //! Random valid books, the twin of a book, the longest book, a book with the longest sheet and views, and the bytes of a book;
-//! days of books, and books at the ratio that they state, in modules of their own.
+//! days of books, books at the ratio that they state, and books whose powers share steps, in modules of their own.
 
 pub mod days;
 pub mod ratios;
+pub mod steps;
 
 use crate::random::Random;
 use crate::reference::book::{Book, Level, Load};
@@ -11,10 +12,11 @@ use crate::reference::standing::Standing;
 use crate::reference::{grid, MOST_CELLS};
 use std::ops::RangeInclusive;
 
-/// What a drawn book may have at most, and at least so many loads; and the ratios of which its header states one.
+/// What a drawn book may have at most, and at least so many loads and so fine a d; and the ratios of which its header states one.
 #[derive(Clone, Copy)]
 pub struct Bounds {
     pub fewest_loads: usize,
+    pub least_fineness: u64,
     pub loads: usize,
     pub choices: u64,
     pub cells: u128,
@@ -64,7 +66,7 @@ pub fn book(random: &mut Random, bounds: Bounds) -> Book {
     let any = random.within(1..=64) as u64;
     let mut header = Header {
         ratio: random.pick(bounds.ratios),
-        fineness: random.pick(&[1, 1, 1, 2, 3, any, 64]),
+        fineness: random.pick(&[1, 1, 1, 2, 3, any, 64]).max(bounds.least_fineness),
         limits: Vec::new(),
         options: options(random, bounds),
     };
@@ -136,6 +138,7 @@ pub fn full_table(random: &mut Random) -> Book {
 
 const LOOSE: Bounds = Bounds {
     fewest_loads: 1,
+    least_fineness: 1,
     loads: 24,
     choices: u64::MAX,
     cells: u128::MAX,

@@ -2,6 +2,7 @@
 
 pub mod days;
 mod ratios;
+mod strict;
 
 use crate::call::Input;
 use crate::damage::{changed, fault, of_each_kind, plausible, reorder, shift, STYLES};
@@ -20,55 +21,60 @@ pub struct Kind {
 }
 
 pub const KINDS: &[Kind] = &[
-    kind("small books", 560, small_books),
+    kind("small books", 500, small_books),
     kind("larger grids", 90, larger_grids),
     kind("many loads", 130, many_loads),
     kind("large tables", 20, large_tables),
-    kind("budgets", 400, budgets),
-    kind("work areas", 290, work_areas),
-    kind("sheet buffers", 290, buffers),
-    kind("several shortages", 290, shortages),
-    kind("words of earlier plans", 270, earlier_words),
-    kind("oversize books", 200, too_many_cells),
+    kind("budgets", 340, budgets),
+    kind("work areas", 250, work_areas),
+    kind("sheet buffers", 250, buffers),
+    kind("several shortages", 250, shortages),
+    kind("words of earlier plans", 230, earlier_words),
+    kind("oversize books", 180, too_many_cells),
     kind("1,048,576 cells", 2, full_tables),
-    kind("one fault", 450, one_fault),
-    kind("two faults", 450, two_faults),
-    kind("truncated books", 480, truncated_books),
-    kind("a byte changed", 800, changed_books),
-    kind("bytes inserted, deleted", 220, shifted_books),
-    kind("lines exchanged", 170, reordered_books),
+    kind("one fault", 400, one_fault),
+    kind("two faults", 400, two_faults),
+    kind("truncated books", 420, truncated_books),
+    kind("a byte changed", 700, changed_books),
+    kind("bytes inserted, deleted", 200, shifted_books),
+    kind("lines exchanged", 150, reordered_books),
     kind("random bytes", 100, random_bytes),
     kind("random digits", 100, random_digits),
-    kind("sheets of choices", 200, sheets_of_choices),
-    kind("sheets, a byte changed", 200, changed_sheets),
-    kind("sheets, cut or longer", 120, cut_sheets),
+    kind("sheets of choices", 170, sheets_of_choices),
+    kind("sheets, a byte changed", 170, changed_sheets),
+    kind("sheets, cut or longer", 100, cut_sheets),
     kind("sheets of other books", 50, foreign_sheets),
     kind("sheets, level above o", 48, levels_above),
-    kind("charges", 170, charges),
-    kind("numbers of prices", 100, price_counts),
-    kind("orders", 170, orders),
-    kind("orders, buffers", 100, order_buffers),
-    kind("orders, names", 100, order_names),
-    kind("views", 120, views),
-    kind("views, buffers", 120, view_buffers),
+    kind("charges", 150, charges),
+    kind("numbers of prices", 90, price_counts),
+    kind("orders", 150, orders),
+    kind("orders, buffers", 90, order_buffers),
+    kind("orders, names", 90, order_names),
+    kind("views", 110, views),
+    kind("views, buffers", 110, view_buffers),
     kind("views of twins", 100, views_of_twins),
     kind("views as sheets", 50, views_as_sheets),
-    kind("no choice admitted", 200, none_admitted),
-    kind("running draws less", 130, running_draws_less),
-    kind("standing draws nothing", 150, standing_draws_nothing),
+    kind("no choice admitted", 170, none_admitted),
+    kind("running draws less", 120, running_draws_less),
+    kind("standing draws nothing", 130, standing_draws_nothing),
     kind("passed over, fits later", 50, fits_later),
     kind("longest books", 10, longest_books),
-    kind("must run, none admitted", 160, must_run_none_admitted),
-    kind("must run, crowding out", 120, must_run_crowds_out),
+    kind("must run, none admitted", 140, must_run_none_admitted),
+    kind("must run, crowding out", 110, must_run_crowds_out),
     kind("must run, start too large", 120, must_run_start_too_large),
     kind("sheets, must run stands", 120, must_run_stands),
-    kind("kinds of lines", 150, line_kinds),
-    kind("every header", 160, ratios::every_header),
-    kind("r = 1, both kinds", 150, ratios::one_by_both_kinds),
-    kind("|Q| about r x P", 220, ratios::near_ratio),
-    kind("r outside 1 to 3", 160, ratios::out_of_range),
-    kind("work areas by r", 170, ratios::work_areas),
-    kind("loads that cancel", 170, ratios::cancelling),
+    kind("kinds of lines", 130, line_kinds),
+    kind("every header", 140, ratios::every_header),
+    kind("r = 1, both kinds", 130, ratios::one_by_both_kinds),
+    kind("|Q| about r x P", 200, ratios::near_ratio),
+    kind("r outside 1 to 3", 140, ratios::out_of_range),
+    kind("work areas by r", 150, ratios::work_areas),
+    kind("loads that cancel", 150, ratios::cancelling),
+    kind("strict, below the plan", 220, strict::below_the_plan),
+    kind("strict, none fits", 220, strict::none_fits),
+    kind("strict, not compared", 200, strict::not_compared),
+    kind("strict, d = 1", 220, strict::too_coarse),
+    kind("strict, by d", 140, strict::by_fineness),
     kind("days", 100, days::right_books),
     kind("days, refused books", 120, days::refused_books),
     kind("days, empty lines", 120, days::empty_lines),
@@ -100,6 +106,7 @@ pub fn run(session: &mut Session, inputs: u64) -> Vec<u64> {
 /// Books that the reference plans in both ways.
 pub const SMALL: Bounds = Bounds {
     fewest_loads: 1,
+    least_fineness: 1,
     loads: 9,
     choices: 1_200,
     cells: 3_000,
@@ -110,6 +117,7 @@ const LARGER: Bounds = Bounds { cells: 60_000, ..SMALL };
 
 const MANY: Bounds = Bounds {
     fewest_loads: 10,
+    least_fineness: 1,
     loads: 24,
     choices: u64::MAX,
     cells: 5_000,
@@ -185,7 +193,7 @@ fn all_calls(session: &mut Session, case: &Case) {
     let Ok(book) = &case.book else { return };
     let words = 4 * case.cells() as usize + session.random.below(50);
     let buffer = case.sheet_bytes() + session.random.below(50);
-    session.plan(case, words, buffer);
+    session.plan_both(case, words, buffer);
     session.day(case, words, buffer);
     session.quick(case, buffer);
     let choice = planned_choice(&mut session.random, case, book);
@@ -203,8 +211,9 @@ fn all_calls(session: &mut Session, case: &Case) {
 }
 
 /// The calls on bytes that may be no book.
-const CALLS: [fn(&mut Session, &Case); 8] = [
+const CALLS: [fn(&mut Session, &Case); 9] = [
     plan_any,
+    strict_any,
     quick_any,
     read_any,
     charge_any,
@@ -229,6 +238,12 @@ fn plan_any(session: &mut Session, case: &Case) {
     let words = needed_words(case) + session.random.below(20);
     let buffer = case.sheet_bytes() + session.random.below(20);
     session.plan(case, words, buffer);
+}
+
+fn strict_any(session: &mut Session, case: &Case) {
+    let words = needed_words(case) + session.random.below(20);
+    let buffer = case.sheet_bytes() + session.random.below(20);
+    session.plan_strict(case, words, buffer);
 }
 
 fn quick_any(session: &mut Session, case: &Case) {
@@ -298,7 +313,7 @@ fn many_loads(session: &mut Session) {
     let trials = case.planned().trials;
     for budget in [trials, trials - 1] {
         let case = case.with_budget(budget);
-        session.plan(&case, needed_words(&case), case.sheet_bytes());
+        session.plan_both(&case, needed_words(&case), case.sheet_bytes());
     }
 }
 
@@ -317,7 +332,7 @@ fn budgets(session: &mut Session) {
     let below = session.random.below(trials as usize) as u64;
     for budget in [trials, trials - 1, trials + 1, 0, 0xFFFF_FFFF, below] {
         let case = case.with_budget(budget);
-        session.plan(&case, needed_words(&case), case.sheet_bytes());
+        session.plan_both(&case, needed_words(&case), case.sheet_bytes());
     }
 }
 
@@ -326,7 +341,7 @@ fn work_areas(session: &mut Session) {
     let need = needed_words(&case);
     let (below, more) = (session.random.below(need), session.random.below(300));
     for words in [need, need - 1, need + 1, need + more, below, 0] {
-        session.plan(&case, words, case.sheet_bytes());
+        session.plan_both(&case, words, case.sheet_bytes());
     }
 }
 
@@ -335,7 +350,7 @@ fn buffers(session: &mut Session) {
     let need = case.sheet_bytes();
     let (below, more) = (session.random.below(need), session.random.below(300));
     for buffer in [need, need - 1, need + 1, need + more, below, 0] {
-        session.plan(&case, needed_words(&case), buffer);
+        session.plan_both(&case, needed_words(&case), buffer);
         session.quick(&case, buffer);
     }
 }
@@ -352,29 +367,32 @@ fn all_shortages(session: &mut Session, case: &Case) {
     for mixture in 0..8 {
         let short = |bit: usize| mixture >> bit & 1;
         let case = case.with_budget(trials - short(2) as u64);
-        session.plan(&case, words - short(0), buffer - short(1));
+        session.plan_both(&case, words - short(0), buffer - short(1));
     }
 }
 
-/// The same plan with other words in the work area, and with those that a plan left: no answer depends on them.
+/// The same plans with other words in the work area, and with those that a plan left: no answer depends on them.
 fn earlier_words(session: &mut Session) {
     let case = drawn(session, SMALL);
     let (words, buffer) = (needed_words(&case), case.sheet_bytes());
     let first = session.plan(&case, words, buffer);
-    session.plan_over(&case, first.work.part(), buffer);
+    let strict = session.strict_over(&case, first.work.part(), buffer);
+    session.plan_over(&case, strict.work.part(), buffer);
     let other = drawn(session, SMALL);
     let before = session.plan(&other, words.max(needed_words(&other)), other.sheet_bytes());
     session.plan_over(&case, &before.work.part()[..words], buffer);
+    session.strict_over(&case, &before.work.part()[..words], buffer);
 }
 
-/// The planner refuses them, also where words or buffer are short too; the quick planner and the sheet reader do not.
+/// The planners with a work area refuse them, also where words or buffer are short too; the quick planner and the sheet reader do
+/// not.
 fn too_many_cells(session: &mut Session) {
     let mut book = draw::too_many_cells(&mut session.random);
     book.budget = session.random.pick(&[0, 100, 0xFFFF_FFFF]);
     let case = case(&book);
     let buffer = session.random.pick(&[0, case.sheet_bytes()]);
     let words = session.random.below(2_000);
-    session.plan(&case, words, buffer);
+    session.plan_both(&case, words, buffer);
     session.quick(&case, case.sheet_bytes());
     let sheet = random_sheet(&mut session.random, &book);
     session.read_sheet(&case, &sheet);
@@ -384,8 +402,8 @@ fn too_many_cells(session: &mut Session) {
 fn full_tables(session: &mut Session) {
     let case = case(&draw::full_table(&mut session.random));
     let need = 4 * MOST_CELLS as usize;
-    session.plan(&case, need, case.sheet_bytes());
-    session.plan(&case, need - 1, case.sheet_bytes());
+    session.plan_both(&case, need, case.sheet_bytes());
+    session.plan_both(&case, need - 1, case.sheet_bytes());
 }
 
 fn one_fault(session: &mut Session) {
@@ -733,11 +751,13 @@ fn refused_last(session: &mut Session, case: &Case) {
     let (words, buffer) = (needed_words(case) + session.random.below(50), case.sheet_bytes());
     quick_buffers(session, case);
     let first = session.plan(case, words, buffer);
-    session.plan_over(case, first.work.part(), buffer + 1);
+    let strict = session.strict_over(case, first.work.part(), buffer + 1);
+    session.plan_over(case, strict.work.part(), buffer + 1);
     let other = drawn(session, SMALL);
-    let mut left = first.work.part().to_vec();
+    let mut left = strict.work.part().to_vec();
     left.resize(needed_words(&other), 0);
     session.plan_over(&other, &left, other.sheet_bytes());
+    session.strict_over(&other, &left, other.sheet_bytes());
 }
 
 /// The quick planner with a buffer that suffices and with others: 11 comes before 17.
@@ -790,6 +810,7 @@ fn all_alike(session: &mut Session, first: &Book, second: &Book) {
     let buffer = session.bytes(VIEW_MAX.max(cases[0].sheet_bytes()));
     for input in [
         Input::plan(&[], &words, &buffer),
+        Input::plan_strict(&[], &words, &buffer),
         Input::quick(&[], &buffer),
         Input::read_sheet(&[], &planned),
         Input::charge(&[], &planned, &prices),
@@ -802,7 +823,12 @@ fn all_alike(session: &mut Session, first: &Book, second: &Book) {
     }
     let trials = cases[0].planned().trials;
     let spent = cases.map(|case| case.with_budget(trials - 1));
-    session.call_alike(&spent, Input::plan(&[], &words, &buffer));
+    for input in [
+        Input::plan(&[], &words, &buffer),
+        Input::plan_strict(&[], &words, &buffer),
+    ] {
+        session.call_alike(&spent, input);
+    }
 }
 
 /// Books in which the quick planner passes over a load that it could take later, when others run and draw less than standing.
@@ -852,7 +878,7 @@ fn must_run_crowds_out(session: &mut Session) {
     let trials = case.planned().trials;
     for budget in [trials, trials - 1, case.free_to_stand().planned().trials] {
         let case = case.with_budget(budget);
-        session.plan(&case, needed_words(&case), case.sheet_bytes());
+        session.plan_both(&case, needed_words(&case), case.sheet_bytes());
     }
 }
 

@@ -11,6 +11,7 @@ pub mod quick;
 pub mod ratio;
 pub mod sheet;
 pub mod standing;
+pub mod strict;
 #[cfg(test)]
 mod test_books;
 pub mod views;
@@ -18,8 +19,10 @@ pub mod views;
 use crate::call::{Function, Input};
 use crate::{Answer, Numbers};
 use book::{code, Book};
-use plan::{by_enumeration, by_map, Planned, ENUMERATED};
+use plan::{Plan, Planned, ENUMERATED};
 use std::cell::OnceCell;
+use std::fmt::Debug;
+use std::rc::Rc;
 
 /// The book of document 01, "Trials at the bench".
 pub const EXAMPLE: &[u8] = b"0101030400000064000A\n0201000500050005\n020100050004FFFC\n0201000400040000\n";
@@ -33,7 +36,8 @@ pub struct Refusal {
     pub line: u64,
 }
 
-/// No choice that runs what must run is admitted, or what the quick planner begins with breaks a limit.
+/// No choice that runs what must run is admitted, or none of those that the strict planner compares keeps the limits, or what the
+/// quick planner begins with breaks one.
 const NONE_ADMITTED: Refusal = Refusal { number: 17, line: 0 };
 
 /// What a call has to leave: its answer, the bytes at the start of the buffer (none on a refusal), and the number
@@ -50,26 +54,39 @@ pub struct Case {
     pub text: Vec<u8>,
     pub book: Result<Book, Refusal>,
     cells: u128,
-    planned: OnceCell<Compared>,
+    /// Of this book, whatever its budget: so cases that differ in it alone share these.
+    planned: Found<Compared<Planned>>,
+    strict: Found<Compared<Option<Plan>>>,
+    /// The most that a choice with M-109's margin is worth.
+    margin: Found<Option<u64>>,
     /// The books of a day; none where these bytes are one book.
     parts: OnceCell<Vec<Case>>,
 }
 
-/// The plan, and what is wrong with the reference itself if its two ways to a plan differ.
-#[derive(Clone)]
-struct Compared {
-    planned: Planned,
+/// What is found when it is first asked for.
+type Found<T> = Rc<OnceCell<T>>;
+
+/// A plan, and what is wrong with the reference itself if its two ways to a plan differ.
+struct Compared<T> {
+    found: T,
     doubt: Option<String>,
 }
 
-impl Compared {
-    fn new(book: &Book) -> Compared {
-        let planned = by_map(book);
+impl<T: Debug + PartialEq> Compared<T> {
+    fn new(book: &Book, by_map: fn(&Book) -> T, by_enumeration: fn(&Book) -> T) -> Compared<T> {
+        let found = by_map(book);
         let other = (book.choices() <= ENUMERATED).then(|| by_enumeration(book));
         let doubt = other
-            .filter(|other| *other != planned)
-            .map(|other| format!("the reference's two ways differ: {planned:?}, {other:?}"));
-        Compared { planned, doubt }
+            .filter(|other| *other != found)
+            .map(|other| format!("the reference's two ways differ: {found:?}, {other:?}"));
+        Compared { found, doubt }
+    }
+}
+
+impl<T> From<T> for Compared<T> {
+    /// What is given, for the self-check.
+    fn from(found: T) -> Compared<T> {
+        Compared { found, doubt: None }
     }
 }
 
@@ -85,12 +102,14 @@ impl Case {
             text,
             cells: book.as_ref().map_or(0, grid::cells_of),
             book,
-            planned: OnceCell::new(),
+            planned: Found::default(),
+            strict: Found::default(),
+            margin: Found::default(),
             parts: OnceCell::new(),
         }
     }
 
-    /// The case of the same book with another budget. The plan does not depend on the budget and is found once.
+    /// The case of the same book with another budget. No plan depends on the budget, and each is found once.
     pub fn with_budget(&self, budget: u64) -> Case {
         let mut text = self.text.clone();
         // After d, and after the ratio where the header states one.
@@ -98,6 +117,8 @@ impl Case {
         text[at..at + 8].copy_from_slice(format!("{budget:08X}").as_bytes());
         Case {
             planned: self.planned.clone(),
+            strict: self.strict.clone(),
+            margin: self.margin.clone(),
             ..Case::new(text)
         }
     }
@@ -115,7 +136,16 @@ impl Case {
     /// The case of the same book with a plan and trials that are given: for the self-check, whose are wrong.
     pub fn with_planned(&self, planned: Planned) -> Case {
         Case {
-            planned: OnceCell::from(Compared { planned, doubt: None }),
+            planned: Rc::new(OnceCell::from(Compared::from(planned))),
+            ..Case::new(self.text.clone())
+        }
+    }
+
+    /// The case of the same book with a strict plan that is given: for the self-check, whose is wrong.
+    pub fn with_strict(&self, plan: Option<Plan>) -> Case {
+        Case {
+            planned: self.planned.clone(),
+            strict: Rc::new(OnceCell::from(Compared::from(plan))),
             ..Case::new(self.text.clone())
         }
     }
@@ -125,20 +155,38 @@ impl Case {
         Case {
             cells,
             planned: self.planned.clone(),
+            strict: self.strict.clone(),
             ..Case::new(self.text.clone())
         }
     }
 
     /// The plan, if there is one, and the trials of a book that was read.
     pub fn planned(&self) -> &Planned {
-        let book = || self.book.as_ref().expect("a valid book");
-        &self.planned.get_or_init(|| Compared::new(book())).planned
+        let compared = || Compared::new(self.valid(), plan::by_map, plan::by_enumeration);
+        &self.planned.get_or_init(compared).found
+    }
+
+    /// The strict plan, if there is one, of a book that was read; whatever d is.
+    pub fn strict(&self) -> Option<&Plan> {
+        let compared = || Compared::new(self.valid(), strict::by_map, strict::by_enumeration);
+        self.strict.get_or_init(compared).found.as_ref()
+    }
+
+    /// What two calls on a book that was read break of M-109's promises, the plain planner's and the strict one's.
+    pub fn broken_promises(&self, plain: &Outcome, strict: &Outcome) -> Vec<&'static str> {
+        let margin = self.margin.get_or_init(|| strict::worth_with_margin(self.valid()));
+        strict::broken(self.valid(), *margin, plain, strict)
+    }
+
+    fn valid(&self) -> &Book {
+        self.book.as_ref().expect("a valid book")
     }
 
     pub fn doubt(&self) -> Option<&str> {
-        let own = self.planned.get().and_then(|compared| compared.doubt.as_deref());
+        let planned = self.planned.get().and_then(|compared| compared.doubt.as_deref());
+        let strict = self.strict.get().and_then(|compared| compared.doubt.as_deref());
         let mut parts = self.parts.get().into_iter().flatten();
-        own.or_else(|| parts.find_map(Case::doubt))
+        planned.or(strict).or_else(|| parts.find_map(Case::doubt))
     }
 
     /// The books of the day that these bytes are. Where they hold no empty line, they are one book, whose plan is found once.
@@ -167,6 +215,7 @@ impl Case {
     pub fn outcome(&self, input: Input) -> Outcome {
         match input.function {
             Function::Plan => self.plan(input.words.len(), input.sheet.len()),
+            Function::PlanStrict => self.plan_strict(input.words.len(), input.sheet.len()),
             Function::Quick => self.quick(input.sheet.len()),
             Function::ReadSheet => self.read_sheet(input.sheet),
             Function::Charge => self.charge(input.sheet, input.prices),
@@ -178,22 +227,48 @@ impl Case {
     }
 
     pub fn plan(&self, words: usize, buffer: usize) -> Outcome {
-        let mut outcome = self.plan_or_refusal(words, buffer).unwrap_or_else(refused::<0>);
-        if [0, 12, 17].contains(&outcome.answer.first.number) {
-            outcome.free_words = 4 * self.cells() as usize;
-        }
-        outcome
+        self.searched(self.plan_or_refusal(words, buffer))
     }
 
     fn plan_or_refusal(&self, words: usize, buffer: usize) -> Result<Outcome, Refusal> {
         let book = self.read()?;
+        self.sheet_of(book, words, buffer, || self.planned().plan.as_ref())
+    }
+
+    pub fn plan_strict(&self, words: usize, buffer: usize) -> Outcome {
+        self.searched(self.strict_or_refusal(words, buffer))
+    }
+
+    fn strict_or_refusal(&self, words: usize, buffer: usize) -> Result<Outcome, Refusal> {
+        let book = self.read()?;
+        refuse_if(strict::too_coarse(book), 20)?;
+        self.sheet_of(book, words, buffer, || self.strict())
+    }
+
+    /// The sheet of this plan with the book's trials, after refusals 9 to 12 and 17.
+    fn sheet_of<'a>(
+        &'a self,
+        book: &Book,
+        words: usize,
+        buffer: usize,
+        plan: impl FnOnce() -> Option<&'a Plan>,
+    ) -> Result<Outcome, Refusal> {
         refuse_if(self.cells() > MOST_CELLS, 9)?;
         refuse_if((words as u128) < 4 * self.cells(), 10)?;
         refuse_if(buffer < self.sheet_bytes(), 11)?;
-        let Planned { plan, trials } = self.planned();
-        refuse_if(*trials > book.budget, 12)?;
-        let plan = plan.as_ref().ok_or(NONE_ADMITTED)?;
-        Ok(written(book, &plan.choice, *trials))
+        let trials = self.planned().trials;
+        refuse_if(trials > book.budget, 12)?;
+        let plan = plan().ok_or(NONE_ADMITTED)?;
+        Ok(written(book, &plan.choice, trials))
+    }
+
+    /// What a planner with a work area leaves: the needed words are free after a sheet, 12 and 17.
+    fn searched(&self, answered: Result<Outcome, Refusal>) -> Outcome {
+        let mut outcome = answered.unwrap_or_else(refused::<0>);
+        if [0, 12, 17].contains(&outcome.answer.first.number) {
+            outcome.free_words = 4 * self.cells() as usize;
+        }
+        outcome
     }
 
     pub fn quick(&self, buffer: usize) -> Outcome {
@@ -337,7 +412,6 @@ fn fitting(bytes: Vec<u8>, buffer: usize, number: u64, further: Vec<u64>) -> Res
 #[cfg(test)]
 mod tests {
     use super::*;
-    use plan::Plan;
 
     const ENOUGH: usize = 100_000;
 

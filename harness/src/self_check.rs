@@ -4,6 +4,7 @@
 
 mod days;
 mod ratios;
+mod strict;
 
 use crate::call::{Call, Function, Input};
 use crate::damage::fault;
@@ -140,13 +141,13 @@ const SUPPLY: &[Alteration] = &[
     ("first line of the sheet shown", |call| call.sheet.put(BENCH_SHEET)),
 ];
 
-/// For the planner and for a day: words of the work area that no call may change.
+/// For the planner, the strict planner and a day: words of the work area that no call may change.
 const KEPT_WORDS: &[Alteration] = &[
     ("word past the needed ones", |call| call.work.flip(NEED as isize)),
     ("last word lent", |call| call.work.flip_from_end(-1)),
 ];
 
-/// For the planner and for a day: free after a sheet and after refusals 12 and 17, so where one of a day's books has them, also
+/// For the planner, the strict planner and a day: free after a sheet and after refusals 12 and 17, so where one of a day's books has them, also
 /// with 19; and to be reported after any other.
 const NEEDED_WORDS: &[Alteration] = &[
     ("first needed word", |call| call.work.flip(0)),
@@ -298,6 +299,7 @@ pub fn run() -> Checks {
         days::bases(),
         ratios::plan_bases(),
         ratios::sheet_bases(),
+        strict::bases(),
     ];
     for base in bases.iter().chain(&later_bases).flatten() {
         check_base(&mut checks, base);
@@ -305,6 +307,7 @@ pub fn run() -> Checks {
     for (name, alter) in FIELDS {
         check_session(&mut checks, name, *alter);
     }
+    strict::check_promises(&mut checks);
     for (books, mistakes) in GROUPS {
         check_reference(&mut checks, books, &NO_MISTAKE, false);
         for mistake in mistakes.iter().copied().flatten() {
@@ -317,7 +320,7 @@ pub fn run() -> Checks {
 fn check_base(checks: &mut Checks, base: &Base) {
     checks.reported(base, &("nothing", |_| ()), false);
     let more: &[&[Alteration]] = match base.call.function {
-        Function::Plan => &[KEPT_WORDS],
+        Function::Plan | Function::PlanStrict => &[KEPT_WORDS],
         Function::Quick => &[],
         Function::ReadSheet => &[FURTHER],
         Function::Charge => &[FURTHER, PRICES],
@@ -330,7 +333,7 @@ fn check_base(checks: &mut Checks, base: &Base) {
     for alteration in FIELDS.iter().chain(MEMORY).chain(more) {
         checks.reported(base, alteration, true);
     }
-    if [Function::Plan, Function::Day].contains(&base.call.function) {
+    if [Function::Plan, Function::PlanStrict, Function::Day].contains(&base.call.function) {
         let kept = base.expected.free_words == 0;
         for alteration in NEEDED_WORDS {
             checks.reported(base, alteration, kept);
@@ -354,12 +357,15 @@ const GROUPS: &[(Books, &[&[Mistake]])] = &[
     (ratios::OVERSIZE, &[ratios::OVERSIZE_MISTAKES]),
     (ratios::NEAR, &[ratios::SLACK_MISTAKES]),
     (ratios::HEADERS, &[ratios::HEADER_MISTAKES]),
+    (strict::FINE, &[strict::COMPARED_MISTAKES, strict::LIMIT_MISTAKES]),
+    (strict::COARSE, &[strict::COARSE_MISTAKES]),
     (days::DAYS, &[days::PARTING_MISTAKES, days::ANSWER_MISTAKES]),
 ];
 
-/// Both planners, then the calls that take a sheet, then the day.
+/// The planners, then the calls that take a sheet, then the day.
 const EVERY: &[Function] = &[
     Function::Plan,
+    Function::PlanStrict,
     Function::Quick,
     Function::ReadSheet,
     Function::Charge,
@@ -369,11 +375,12 @@ const EVERY: &[Function] = &[
     Function::Day,
 ];
 
-const PLANNERS: &[Function] = EVERY.split_at(2).0;
-const READERS: &[Function] = EVERY.split_at(2).1.split_at(5).0;
+const PLANNERS: &[Function] = EVERY.split_at(3).0;
+const READERS: &[Function] = EVERY.split_at(3).1.split_at(5).0;
 const DAY: &[Function] = &[Function::Day];
 const PLAN: &[Function] = &[Function::Plan];
-const PLAN_AND_DAY: &[Function] = &[Function::Plan, Function::Day];
+const STRICT: &[Function] = &[Function::PlanStrict];
+const PLAN_STRICT_AND_DAY: &[Function] = &[Function::Plan, Function::PlanStrict, Function::Day];
 const QUICK: &[Function] = &[Function::Quick];
 
 /// A reference with a mistake: the calls that the mistake bears on, and what a call would have to leave.
@@ -535,8 +542,8 @@ fn check_reference(checks: &mut Checks, (books, draw): &Books, (name, functions,
 }
 
 /// Whether this call on the book, or on a day's books, differs from a reference. The planners have a buffer that suffices and
-/// one that does not, and the planner also just the words that it needs, and one less; on the sheets, loads that must run may
-/// stand.
+/// one that does not, and those with a work area also just the words that they need, and one less; on the sheets, loads that must
+/// run may stand.
 fn differs(random: &mut Random, case: &Case, function: Function, reference: fn(&Case, Input) -> Outcome) -> bool {
     let text = &case.text;
     let (words, room) = (vec![7; 4 * SMALL.cells as usize], [0; DAY_MAX]);
@@ -549,11 +556,13 @@ fn differs(random: &mut Random, case: &Case, function: Function, reference: fn(&
         .as_ref()
         .map_or((0, 0), |book| (book.limits.len(), book.loads.len()));
     let (prices, names) = (vec![40; slots], vec![0; loads]);
+    let lent = [
+        (&words[..], free),
+        (&words, short),
+        (&words[..need], free),
+        (&words[..need.saturating_sub(1)], free),
+    ];
     let inputs = [
-        Input::plan(text, &words, free),
-        Input::plan(text, &words, short),
-        Input::plan(text, &words[..need], free),
-        Input::plan(text, &words[..need.saturating_sub(1)], free),
         Input::quick(text, free),
         Input::quick(text, short),
         Input::read_sheet(text, &planned),
@@ -562,12 +571,14 @@ fn differs(random: &mut Random, case: &Case, function: Function, reference: fn(&
         Input::mill_view(text, &planned, free),
         Input::supply_view(text, &planned, free),
     ];
-    let of_day = match function {
+    let with_words: Vec<Input> = match function {
+        Function::Plan => lent.map(|(words, sheet)| Input::plan(text, words, sheet)).into(),
+        Function::PlanStrict => lent.map(|(words, sheet)| Input::plan_strict(text, words, sheet)).into(),
         Function::Day => days::inputs(random, case, &words, &room),
         _ => Vec::new(),
     };
-    let of_book = inputs.into_iter().filter(|input| input.function == function);
-    let mut made = of_book.chain(of_day);
+    let without = inputs.into_iter().filter(|input| input.function == function);
+    let mut made = without.chain(with_words);
     made.any(|input| {
         let complaints = Call::new(random, input).complaints(&reference(case, input));
         !complaints.is_empty()

@@ -9,8 +9,9 @@ use crate::NUMBERS;
 const MOST_DIFFERENCES: usize = 20;
 
 /// The functions with their names, in the order of `enum Function`.
-const FUNCTIONS: [(Function, &str); 8] = [
+const FUNCTIONS: [(Function, &str); 9] = [
     (Function::Plan, "plan"),
+    (Function::PlanStrict, "plan_strict"),
     (Function::Quick, "quick"),
     (Function::ReadSheet, "read_sheet"),
     (Function::Charge, "charge"),
@@ -58,6 +59,30 @@ impl Session {
     pub fn plan_over(&mut self, case: &Case, words: &[u64], buffer: usize) -> Call {
         let sheet = self.bytes(buffer);
         self.call(case, Input::plan(&case.text, words, &sheet))
+    }
+
+    /// The strict planner, with so many words and bytes lent, which hold anything.
+    pub fn plan_strict(&mut self, case: &Case, words: usize, buffer: usize) -> Call {
+        let words = self.words(words);
+        self.strict_over(case, &words, buffer)
+    }
+
+    /// The strict planner, with these words in the work area.
+    pub fn strict_over(&mut self, case: &Case, words: &[u64], buffer: usize) -> Call {
+        let sheet = self.bytes(buffer);
+        self.call(case, Input::plan_strict(&case.text, words, &sheet))
+    }
+
+    /// The planner, and then the strict planner, with so many words and bytes lent to each; of a book that was read, what they left
+    /// has to keep M-109's promises too.
+    pub fn plan_both(&mut self, case: &Case, words: usize, buffer: usize) {
+        let plain = self.plan(case, words, buffer).left();
+        let (words, sheet) = (self.words(words), self.bytes(buffer));
+        let input = Input::plan_strict(&case.text, &words, &sheet);
+        self.call_keeping(&case.outcome(input), case, input, |call| match case.book {
+            Ok(_) => case.broken_promises(&plain, &call.left()),
+            Err(_) => Vec::new(),
+        });
     }
 
     pub fn quick(&mut self, case: &Case, buffer: usize) {
@@ -144,10 +169,22 @@ impl Session {
 
     /// A call on the case's book that has to leave this.
     fn call_leaving(&mut self, expected: &Outcome, case: &Case, input: Input) -> Call {
+        self.call_keeping(expected, case, input, |_| Vec::new())
+    }
+
+    /// A call on the case's book that has to leave this, and of which nothing may be broken.
+    fn call_keeping(
+        &mut self,
+        expected: &Outcome,
+        case: &Case,
+        input: Input,
+        broken: impl Fn(&Call) -> Vec<&'static str>,
+    ) -> Call {
         let mut call = Call::new(&mut self.random, input);
         (self.alter)(&mut call);
         let mut complaints = call.complaints(expected);
         complaints.extend(case.doubt().map(str::to_string));
+        complaints.extend(broken(&call).into_iter().map(str::to_string));
         self.refusals[input.function as usize][expected.answer.first.number as usize] += 1;
         self.count(&call, &complaints);
         call

@@ -357,6 +357,7 @@ mod tests {
 
     const BOUNDS: Bounds = Bounds {
         fewest_loads: 1,
+        least_fineness: 1,
         loads: 12,
         choices: 10_000,
         cells: 5_000,

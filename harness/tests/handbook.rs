@@ -7,13 +7,14 @@ mod tables;
 use harness::project::{self, same};
 use harness::reference::Case;
 use harness::trials::{Trials, Verdict};
+use harness::Answer;
 use std::process::{Command, ExitCode};
 use tables::TABLES;
 
 const HANDBOOK: &str = "docs/HANDBOOK.md";
 const PROVED_TABLE: &str = "crates/model/proofs/AcceptanceTable.antt";
 
-/// Books of which the handbook says that what both planners answer is proved.
+/// Books of which the handbook says that what the planner and the quick planner answer is proved.
 const PROVED_BOOKS: [&str; 6] = [
     "examples/heaters.book",
     "examples/warm.book",
@@ -22,6 +23,13 @@ const PROVED_BOOKS: [&str; 6] = [
     "examples/fans.book",
     "examples/bank.book",
 ];
+
+/// Books of which the handbook says that what the planner and the strict planner answer is proved.
+const PROVED_STRICTLY: [&str; 2] = ["examples/close.book", "examples/step.book"];
+
+/// The words and the bytes that the proved table lends the strict planner there.
+const WORDS: usize = 6_144;
+const ROOM: usize = 4_096;
 
 /// Folders of the project whose files the handbook names.
 const FOLDERS: [&str; 6] = [".ci/", "crates/", "docs/", "examples/", "harness/", "include/"];
@@ -60,6 +68,13 @@ fn read(trials: &mut Trials) -> Verdict {
         trials.check(&format!("{book} is a row of the proved table, planned quickly"), || {
             proved_quick(book)
         });
+    }
+    for book in PROVED_STRICTLY {
+        trials.check(&format!("{book} is a row of the proved table"), || proved_print(book));
+        trials.check(
+            &format!("{book} is a row of the proved table, planned strictly"),
+            || proved_strict(book),
+        );
     }
     trials.check(&format!("{HANDBOOK} names no path that is missing"), || {
         paths(&handbook)
@@ -186,17 +201,32 @@ fn proved_quick(book: &str) -> Verdict {
     let (name, text) = (name_of(book)?, project::bytes(book)?);
     let mut sheet = vec![0; Case::new(text.clone()).sheet_bytes()];
     let answer = harness::quick(&text, &mut sheet);
-    let printed = quoted(&match answer.number {
-        0 => String::from_utf8_lossy(&sheet).into_owned(),
-        number => format!("FF{number:02X}{:04X}\n", answer.line),
-    });
-    let numbers = [answer.number, answer.line, answer.bytes, answer.worth, answer.trials];
-    let numbers: String = numbers.iter().map(|number| format!("{number} ∷ ")).collect();
+    let (numbers, printed) = shown(answer, &sheet);
     let room = sheet.len();
     proved(&[
         format!("quickPrints {name} {printed}\n"),
-        format!("shows quickIn (bytesOf {name}) [] {room} ({numbers}[]) {printed}\n"),
+        format!("shows quickIn (bytesOf {name}) [] {room} {numbers} {printed}\n"),
     ])
+}
+
+/// A row by the book's name has the numbers of the strict planner's answer, and what the program would print of it.
+fn proved_strict(book: &str) -> Verdict {
+    let (name, text) = (name_of(book)?, project::bytes(book)?);
+    let mut sheet = [0; ROOM];
+    let answer = harness::plan_strict(&text, &mut [0; WORDS], &mut sheet);
+    let (numbers, printed) = shown(answer, &sheet);
+    proved(&[format!("strictly {name} {numbers} {printed}\n")])
+}
+
+/// An answer's numbers as a list, and what the program would print of it, as the proved table has both.
+fn shown(answer: Answer, sheet: &[u8]) -> (String, String) {
+    let numbers = [answer.number, answer.line, answer.bytes, answer.worth, answer.trials];
+    let numbers: String = numbers.iter().map(|number| format!("{number} ∷ ")).collect();
+    let printed = match answer.number {
+        0 => String::from_utf8_lossy(&sheet[..answer.bytes as usize]).into_owned(),
+        number => format!("FF{number:02X}{:04X}\n", answer.line),
+    };
+    (format!("({numbers}[])"), quoted(&printed))
 }
 
 /// The name that the proved table has for the book.

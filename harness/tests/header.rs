@@ -15,6 +15,9 @@ const PLANNED: [(&str, &str, &str); 2] = [
     (".books", ".sheets", "examples/day.cpp"),
 ];
 
+/// How the names of the strict planner's sheets end, and of their books; and the example's word for that planner.
+const STRICT: (&str, &str, &str, &str) = ("-strict.sheet", ".book", "examples/plan.c", "-s");
+
 const WARNINGS: [&str; 6] = ["-pedantic", "-Wall", "-Wextra", "-Werror", "-O2", "-Iinclude"];
 
 fn main() -> ExitCode {
@@ -238,6 +241,14 @@ fn examples(trials: &mut Trials, scratch: &Path) -> Verdict {
                 same(project::bytes(due)?, printed)
             });
         }
+    }
+    let (to, from, source, word) = STRICT;
+    for due in project::files("examples", to)? {
+        let file = due.replace(to, from);
+        trials.check(&format!("{file} gives {due}"), || {
+            let (_, printed) = project::run(Command::new(build(source, scratch)?).args([word, &file]))?;
+            same(project::bytes(&due)?, printed)
+        });
     }
     Ok(())
 }

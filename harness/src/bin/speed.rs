@@ -1,7 +1,8 @@
-//! Times the archive's planner beside a table planner written by hand in Rust: `speed [ROUNDS]`, built with the profile `speed`.
+//! Times the archive's planner beside a table planner written by hand in Rust, and its strict planner beside the planner:
+//! `speed [ROUNDS]`, built with the profile `speed`.
 
 use harness::reference::{Case, MOST_CELLS};
-use harness::{plan, table, Answer, SHEET_MAX};
+use harness::{plan, plan_strict, table, Answer, SHEET_MAX};
 use std::process::ExitCode;
 use std::time::{Duration, Instant};
 
@@ -25,6 +26,16 @@ const BOOKS: [(&str, &[u8]); 6] = [
 /// The book that the second table is made from.
 const GROWN: &[u8] = BOOKS[4].1;
 
+/// Books of which the strict planner has to test every cell that is reached in the end: in g each is worth more than those before
+/// it, and in h, whose first load must run and breaks the limit by itself, none fits.
+const TESTED: [(&str, &[u8]); 2] = [
+    ("g: T=1 N=24 r=3, rising", include_bytes!("../../books/g_rising.book")),
+    (
+        "h: T=1 N=12 r=3, none fits",
+        include_bytes!("../../books/h_none_fits.book"),
+    ),
+];
+
 fn main() -> ExitCode {
     let arguments: Vec<String> = std::env::args().skip(1).collect();
     let rounds = match arguments.as_slice() {
@@ -44,6 +55,12 @@ fn main() -> ExitCode {
     }
     println!();
     grow(&mut timings);
+    println!();
+    strict_heading("strict, beside the planner");
+    let fine = |(_, book): &&(&str, &[u8])| &book[6..8] != b"01";
+    for (name, book) in BOOKS.iter().filter(fine).chain(&TESTED) {
+        timings.strict_row(name, book);
+    }
     if timings.different {
         println!("\nDIFFERENT answers or sheets");
     }
@@ -64,7 +81,7 @@ fn grow(timings: &mut Timings) {
     }
     println!();
     heading("e, d = 16, spent (12)");
-    let trials = timings.measure(&book).answer.trials;
+    let trials = timings.measure(&book, BOTH).answers[0].trials;
     for part in [64, 16, 4, 2] {
         timings.row(&format!("budget = trials / {part}"), &with_budget(&book, trials / part));
     }
@@ -77,11 +94,17 @@ fn heading(name: &str) {
     );
 }
 
-/// One answer of both planners, and the best time of each.
+fn strict_heading(name: &str) {
+    println!(
+        "{name:<28}{:>9}{:>11}{:>12}{:>11}{:>16}{:>8}",
+        "cells", "trials", "ms planner", "ms strict", "strict/planner", "number"
+    );
+}
+
+/// The answers of two planners, and the best time of each.
 struct Timing {
-    answer: Answer,
-    ours: Duration,
-    rust: Duration,
+    answers: [Answer; 2],
+    times: [Duration; 2],
     /// Whether the two planners gave different answers or sheets in any round.
     different: bool,
 }
@@ -96,6 +119,9 @@ struct Timings {
 
 type Planner = fn(&[u8], &mut [u64], &mut [u8]) -> Answer;
 
+/// The archive's planner, and the one written by hand.
+const BOTH: [Planner; 2] = [plan, table::plan];
+
 impl Timings {
     fn new(rounds: u32) -> Timings {
         let mut work = vec![1; 4 * MOST_CELLS as usize];
@@ -108,11 +134,10 @@ impl Timings {
     }
 
     /// Both planners in turn, round by round, so that a slow moment of the machine meets both.
-    fn measure(&mut self, book: &[u8]) -> Timing {
+    fn measure(&mut self, book: &[u8], planners: [Planner; 2]) -> Timing {
         let mut timing = Timing {
-            answer: Answer::default(),
-            ours: Duration::MAX,
-            rust: Duration::MAX,
+            answers: [Answer::default(); 2],
+            times: [Duration::MAX; 2],
             different: false,
         };
         let start = Instant::now();
@@ -120,17 +145,14 @@ impl Timings {
         while rounds < self.rounds || start.elapsed() < LEAST {
             rounds += 1;
             // Cleared in every round, so that no sheet of an earlier one can pass.
-            let (mut sheet, mut other_sheet) = ([0; SHEET_MAX], [0; SHEET_MAX]);
-            let (answer, ours) = self.time(plan, book, &mut sheet);
-            let (other, rust) = self.time(table::plan, book, &mut other_sheet);
-            timing = Timing {
-                answer,
-                ours: timing.ours.min(ours),
-                rust: timing.rust.min(rust),
-                different: timing.different || answer != other || sheet != other_sheet,
-            };
+            let mut sheets = [[0; SHEET_MAX]; 2];
+            for (i, planner) in planners.into_iter().enumerate() {
+                let (answer, time) = self.time(planner, book, &mut sheets[i]);
+                timing.answers[i] = answer;
+                timing.times[i] = timing.times[i].min(time);
+            }
+            timing.different |= timing.answers[0] != timing.answers[1] || sheets[0] != sheets[1];
         }
-        self.different |= timing.different;
         timing
     }
 
@@ -140,27 +162,46 @@ impl Timings {
         (answer, start.elapsed())
     }
 
-    /// Measures and prints. A book over its budget has no trials in its answer, so the budget stands for them.
+    /// Measures and prints.
     fn row(&mut self, name: &str, book: &[u8]) {
-        let timing = self.measure(book);
-        let Timing { answer, ours, rust, .. } = timing;
-        let case = Case::new(book.to_vec());
-        let cells = case.cells();
-        let trials = match answer.number {
-            0 => answer.trials,
-            _ => case.book.map_or(0, |book| book.budget),
-        };
-        let nanoseconds = ours.as_secs_f64() * 1e9;
+        let timing = self.measure(book, BOTH);
+        self.different |= timing.different;
+        let (cells, trials) = sizes(book, timing.answers[0]);
+        let [ours, rust] = timing.times.map(|time| time.as_secs_f64());
         println!(
             "{name:<28}{cells:>9}{trials:>11}{:>11.3}{:>11.3}{:>11.2}{:>12.2}{:>11.2}{}",
-            ours.as_secs_f64() * 1e3,
-            rust.as_secs_f64() * 1e3,
-            ours.as_secs_f64() / rust.as_secs_f64(),
-            nanoseconds / trials as f64,
-            nanoseconds / cells as f64,
+            ours * 1e3,
+            rust * 1e3,
+            ours / rust,
+            ours * 1e9 / trials as f64,
+            ours * 1e9 / cells as f64,
             if timing.different { "  DIFFERENT" } else { "" }
         );
     }
+
+    /// Measures the strict planner beside the planner, and prints. Their sheets may differ.
+    fn strict_row(&mut self, name: &str, book: &[u8]) {
+        let timing = self.measure(book, [plan, plan_strict]);
+        let (cells, trials) = sizes(book, timing.answers[0]);
+        let [plain, strict] = timing.times.map(|time| time.as_secs_f64());
+        println!(
+            "{name:<28}{cells:>9}{trials:>11}{:>12.3}{:>11.3}{:>16.2}{:>8}",
+            plain * 1e3,
+            strict * 1e3,
+            strict / plain,
+            timing.answers[1].number
+        );
+    }
+}
+
+/// The cells and the trials of a book. A book that is refused has no trials in its answer, so the budget stands for them.
+fn sizes(book: &[u8], answer: Answer) -> (u128, u64) {
+    let case = Case::new(book.to_vec());
+    let trials = match answer.number {
+        0 => answer.trials,
+        _ => case.book.as_ref().map_or(0, |book| book.budget),
+    };
+    (case.cells(), trials)
 }
 
 /// The book with other digits at a place of its header.

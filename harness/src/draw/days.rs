@@ -11,6 +11,7 @@ use std::iter::repeat_with;
 /// Books of which a day's are soon planned.
 const TINY: Bounds = Bounds {
     fewest_loads: 1,
+    least_fineness: 1,
     loads: 6,
     choices: 200,
     cells: 800,

@@ -76,7 +76,7 @@ pub fn work_areas(session: &mut Session) {
         let case = case(&Book { ratio, ..book.clone() });
         let (need, buffer) = (needed_words(&case), case.sheet_bytes());
         for words in [need, need - 1] {
-            session.plan(&case, words, buffer);
+            session.plan_both(&case, words, buffer);
             session.day(&case, words, buffer);
         }
     }

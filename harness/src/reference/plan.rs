@@ -24,10 +24,20 @@ pub struct Planned {
 }
 
 /// A list of grid pairs (a, b), one pair a slot.
-type Pairs = Vec<(i64, i64)>;
+pub type Pairs = Vec<(i64, i64)>;
 
 /// Worth first, then the smaller code: the greater rank is the better choice.
-type Rank = (u64, Reverse<u64>);
+pub type Rank = (u64, Reverse<u64>);
+
+impl Plan {
+    /// The choice of this rank.
+    pub fn of(book: &Book, (worth, Reverse(code)): Rank) -> Plan {
+        Plan {
+            choice: (0..book.loads.len()).map(|k| (code >> (2 * k)) as usize % 4).collect(),
+            worth,
+        }
+    }
+}
 
 /// By going through every choice, as the text has it.
 pub fn by_enumeration(book: &Book) -> Planned {
@@ -55,7 +65,7 @@ pub fn best_where(book: &Book, holds: impl Fn(&[usize]) -> bool) -> Option<Plan>
 }
 
 /// Goes through the choices of the first loads.
-fn each_choice(book: &Book, loads: usize, mut visit: impl FnMut(&[usize])) {
+pub fn each_choice(book: &Book, loads: usize, mut visit: impl FnMut(&[usize])) {
     let mut choice = vec![0; loads];
     loop {
         if must_run::all_run(book, &choice) {
@@ -70,7 +80,8 @@ fn each_choice(book: &Book, loads: usize, mut visit: impl FnMut(&[usize])) {
     }
 }
 
-fn pairs(book: &Book, slots: &[Slot], choice: &[usize]) -> Pairs {
+/// The grid pairs of a choice, or of one of the first loads alone.
+pub fn pairs(book: &Book, slots: &[Slot], choice: &[usize]) -> Pairs {
     let mut pairs = vec![(0, 0); slots.len()];
     for (load, c) in book.chosen(choice) {
         add(&mut pairs, slots, load, c);
@@ -119,11 +130,21 @@ fn lists(book: &Book, slots: &[Slot], k: usize) -> u64 {
     seen.len() as u64
 }
 
-/// By a map from each list of grid pairs to the best rank that reaches it, loads in order.
-///
-/// Lists with a > R are dropped at once: a never falls, so no later H counts them, and aL > S, so none is admitted. None may be
-/// left, as standing draws too, or loads must run.
+/// By a map of the lists of grid pairs.
 pub fn by_map(book: &Book) -> Planned {
+    let slots = slots(book);
+    let (lists, trials) = ranks_by_list(book);
+    let admitted = lists.iter().filter(|(pairs, _)| admitted(&slots, pairs));
+    let best = admitted.map(|(_, rank)| *rank).max();
+    let plan = best.map(|rank| Plan::of(book, rank));
+    Planned { plan, trials }
+}
+
+/// A map from each list of grid pairs to the best rank that reaches it, made of the loads in order, and the trials.
+///
+/// Lists with a > R are dropped at once: a never falls, so no later H counts them, and aL > S, so none is admitted, and none keeps
+/// the limits. None may be left, as standing draws too, or loads must run.
+pub fn ranks_by_list(book: &Book) -> (HashMap<Pairs, Rank>, u64) {
     let slots = slots(book);
     let mut layer: HashMap<Pairs, Rank> = HashMap::from([(vec![(0, 0); slots.len()], (0, Reverse(0)))]);
     let mut trials = 0;
@@ -131,13 +152,7 @@ pub fn by_map(book: &Book) -> Planned {
         trials += (layer.len() * must_run::settings(load).count()) as u64;
         layer = next_layer(&slots, k, load, &layer);
     }
-    let admitted = layer.iter().filter(|(pairs, _)| admitted(&slots, pairs));
-    let best = admitted.map(|(_, rank)| rank).max();
-    let plan = best.map(|&(worth, Reverse(code))| Plan {
-        choice: (0..book.loads.len()).map(|k| (code >> (2 * k)) as usize % 4).collect(),
-        worth,
-    });
-    Planned { plan, trials }
+    (layer, trials)
 }
 
 fn next_layer(slots: &[Slot], k: usize, load: &Load, layer: &HashMap<Pairs, Rank>) -> HashMap<Pairs, Rank> {

@@ -2,7 +2,7 @@
 
 use super::{
     base, book_of, of_own, plan_base, quick_base, quick_sheet, read_where, succeeded, with_plan, with_some_budget,
-    Alteration, Base, Books, Mistake, BENCH_QUICK, BENCH_SHEET, BUFFER, EVERY, NEED, PLAN, PLAN_AND_DAY, QUICK,
+    Alteration, Base, Books, Mistake, BENCH_QUICK, BENCH_SHEET, BUFFER, EVERY, NEED, PLAN, PLAN_STRICT_AND_DAY, QUICK,
 };
 use crate::call::{Call, Input};
 use crate::damage::fault_at;
@@ -141,21 +141,21 @@ pub const HEADERS: Books = ("headers of kind 08", |random| {
 
 /// Of the grid pairs of a slot, by r, R and N.
 pub const CELL_MISTAKES: &[Mistake] = &[
-    ("grid pairs of r = 1", PLAN_AND_DAY, |case, input| {
+    ("grid pairs of r = 1", PLAN_STRICT_AND_DAY, |case, input| {
         with_pairs(case, input, |_, bound, loads| ratio::pairs(1, bound, loads))
     }),
-    ("grid pairs of r = 3", PLAN_AND_DAY, |case, input| {
+    ("grid pairs of r = 3", PLAN_STRICT_AND_DAY, |case, input| {
         with_pairs(case, input, |_, bound, loads| ratio::pairs(3, bound, loads))
     }),
-    ("grid pairs with N once", PLAN_AND_DAY, |case, input| {
+    ("grid pairs with N once", PLAN_STRICT_AND_DAY, |case, input| {
         with_pairs(case, input, |r, bound, loads| (bound + 1) * (2 * r * bound + loads + 1))
     }),
-    ("grid pairs with N 2r times", PLAN_AND_DAY, |case, input| {
+    ("grid pairs with N 2r times", PLAN_STRICT_AND_DAY, |case, input| {
         with_pairs(case, input, |r, bound, loads| {
             (bound + 1) * (2 * r * (bound + loads) + 1)
         })
     }),
-    ("grid pairs with R twice", PLAN_AND_DAY, |case, input| {
+    ("grid pairs with R twice", PLAN_STRICT_AND_DAY, |case, input| {
         with_pairs(case, input, |r, bound, loads| {
             (bound + 1) * (2 * bound + (2 * r - 1) * loads + 1)
         })
@@ -163,7 +163,7 @@ pub const CELL_MISTAKES: &[Mistake] = &[
 ];
 
 /// Of refusal 9: where it is not given, 10 is, as the words are few.
-pub const OVERSIZE_MISTAKES: &[Mistake] = &[("9 by the cells of r = 1", PLAN_AND_DAY, |case, input| {
+pub const OVERSIZE_MISTAKES: &[Mistake] = &[("9 by the cells of r = 1", PLAN_STRICT_AND_DAY, |case, input| {
     with_pairs(case, input, |_, bound, loads| ratio::pairs(1, bound, loads))
 })];
 

@@ -1,7 +1,11 @@
-//! The handbook's tables of cells, fineness and relay settings, computed anew; those of cells and fineness by the reference.
+//! The handbook's tables of cells, fineness, relay settings, margins and strict plans, computed anew; those of cells, fineness and
+//! plans by the reference.
 
+use harness::project;
+use harness::reference::book::Book;
 use harness::reference::grid::{cells, Slot};
-use harness::reference::MOST_CELLS;
+use harness::reference::plan::Plan;
+use harness::reference::{Case, MOST_CELLS};
 
 /// A table by the start of its head. A row is computed from the numbers that it begins with.
 pub struct Table {
@@ -10,7 +14,7 @@ pub struct Table {
     row: fn(&[u64]) -> Option<String>,
 }
 
-pub const TABLES: [Table; 5] = [
+pub const TABLES: [Table; 7] = [
     Table {
         name: "cells",
         head: "| T | N | d | cells, R = Nd |",
@@ -36,7 +40,20 @@ pub const TABLES: [Table; 5] = [
         head: "| d | 1 + 3/(2d), rounded up |",
         row: relay_row,
     },
+    Table {
+        name: "margins",
+        head: "| d | (d - 2)/d, % of S |",
+        row: margin_row,
+    },
+    Table {
+        name: "strict plans",
+        head: "| d | plan, worth |",
+        row: strict_row,
+    },
 ];
+
+/// The book whose plans the last table has.
+const STRICT_BOOK: &str = "examples/transformer.book";
 
 impl Table {
     /// The rows as they should be and as they are.
@@ -129,6 +146,43 @@ fn relay_row(numbers: &[u64]) -> Option<String> {
         factor % 10_000,
         limits.join(" | ")
     ))
+}
+
+/// (d - 2)/d in percent, and of both settings, rounded down.
+fn margin_row(numbers: &[u64]) -> Option<String> {
+    let [fineness] = first(numbers)?;
+    let within = |whole: u64| Some(whole * fineness.checked_sub(2)? / fineness);
+    let (percent, limits) = (within(100_000)?, [within(4_000)?, within(6_300)?]);
+    Some(format!(
+        "| {fineness} | {}.{:03} | {} |",
+        percent / 1_000,
+        percent % 1_000,
+        limits.map(|limit| tenths(limit.into())).join(" | ")
+    ))
+}
+
+/// Worth and apparent power of the plan, and of the strict plan, of the book with this d.
+fn strict_row(numbers: &[u64]) -> Option<String> {
+    let [fineness] = first(numbers)?;
+    let mut text = project::bytes(STRICT_BOOK).ok()?;
+    text.get_mut(6..8)?
+        .copy_from_slice(format!("{fineness:02X}").as_bytes());
+    let case = Case::new(text);
+    let book = case.book.as_ref().ok()?;
+    let columns = |plan: &Plan| format!("{} | {}", plan.worth, share(book, &plan.choice));
+    let (plan, strict) = (case.planned().plan.as_ref()?, case.strict()?);
+    Some(format!("| {fineness} | {} | {} |", columns(plan), columns(strict)))
+}
+
+/// The largest apparent power of a slot, in percent of its limit, rounded up to tenths.
+fn share(book: &Book, choice: &[usize]) -> String {
+    let covers = |share: &u128| {
+        book.limits.iter().enumerate().all(|(slot, &limit)| {
+            let (p, q) = book.sums(choice, slot);
+            1_000_000 * (p * p + q * q) as u128 <= share * share * (limit * limit) as u128
+        })
+    };
+    (0..10_000).find(covers).map_or("-".into(), tenths)
 }
 
 /// The first numbers, if they are there and none is 0.
