@@ -1,6 +1,7 @@
--- The planner's result by cases: each refusal of 9 to 12, 17, and the plan's sheet.
+-- The planner's result by cases: what is read of the book, refusal 20, each refusal of 9 to 12, 17, and the plan's sheet.
 -- Assumes nothing.
 use mathlib.Core.Path.{_≡_, refl, sym, ap, _∙_}
+use mathlib.Core.Bool.{true, false}
 use mathlib.Core.List.{List, []}
 use mathlib.Core.Option.{Option, none, some}
 use Prim.Native.Nat.{ℕ, _<_, _≤_}
@@ -9,20 +10,23 @@ use lib.ListN.{length}
 use borrow.Author.Tests.{lt-ltb, le-ltb}
 use Rattle.model.specs.declared.Refusal.{Refusal}
 use Rattle.model.specs.declared.Answer.{Answer}
-use Rattle.model.specs.declared.Refusal.the-variants.{BudgetExceeded, NoPlan}
-use Rattle.model.specs.Refusals.{Result, refused, done, checked, andThen}
+use Rattle.model.specs.declared.Book.{Book}
+use Rattle.model.specs.declared.Refusal.the-variants.{BudgetExceeded, NoPlan, TooCoarse}
+use Rattle.model.specs.Refusals.{Result, refused, done, first, checked, andThen}
 use Rattle.model.specs.Book.{Problem, readBook}
 use Rattle.model.specs.Choice.{Choice}
 use Rattle.model.specs.Trials.{trials, WordsKept}
 use Rattle.model.specs.Sheet.{sheetOf}
 use Rattle.model.specs.Calls.{fitting, fittingBook, planned, planSheet, plannerResult, freeFor, freeWords}
-use Rattle.model.specs.Answers.{refusalAnswer, Writes}
+use Rattle.model.specs.Answers.{Output, refusalAnswer, Writes}
+use Rattle.model.specs.Strict.{fine, strictBook, strictResult, strictFree}
+use Rattle.model.specs.Values.{problemOf}
 use Rattle.model.proofs.RefusalLaws.{first-here, first-last}
 use Rattle.model.proofs.AnswerLaws.{refused-writes}
 use Rattle.scan.specs.declared.Test.{Test}
-use Rattle.scan.specs.declared.Test.the-variants.{Admission}
+use Rattle.scan.specs.declared.Test.the-variants.{Admission, TrueSums}
 use Rattle.found.specs.Found.{planBy}
-use Rattle.planner.specs.Planner.{fittedPlan}
+use Rattle.planner.specs.Planner.{fittedPlan, coarse, fineBy, resultBy, freeBy}
 
 module _ {A B C : Type 0} where
   then-assoc : (x : Result A) (f : A → Result B) (g : B → Result C) → andThen (andThen x f) g ≡ andThen x (λ a. andThen (f a) g)
@@ -30,17 +34,41 @@ module _ {A B C : Type 0} where
   then-assoc (done a) f g = refl
 
 -- the plan of the book that is left after some refusals
-pub fitted-is : (test : Test) (words room : ℕ) (x : Result Problem)
+fitted-is : (test : Test) (words room : ℕ) (x : Result Problem)
     → andThen (andThen x (fitting words room)) (planSheet (planBy test)) ≡ andThen x (fittedPlan test words room)
 fitted-is test words room x = then-assoc x (fitting words room) (planSheet (planBy test))
 
-pub planner-is : (book : List ℕ) (words room : ℕ) → plannerResult book words room ≡ andThen (readBook book) (fittedPlan Admission words room)
-unfolding plannerResult fittingBook
-planner-is book words room = fitted-is Admission words room (readBook book)
+-- ---- by what is read of the book
 
-pub free-is : (book : List ℕ) (words room : ℕ) → freeWords book words room ≡ freeFor (andThen (readBook book) (fitting words room))
-unfolding freeWords fittingBook
-free-is book words room = refl
+module _ (words room : ℕ) where
+  -- of a book that was read: the book after 20 and 9 to 11, and the result
+  abbrev pub fineFitting : Test → Problem → Result Problem
+  fineFitting test b = andThen (fineBy test b) (fitting words room)
+
+  abbrev pub finePlan : Test → Problem → Result Output
+  finePlan test b = andThen (fineBy test b) (fittedPlan test words room)
+
+  pub result-is : (test : Test) (book : List ℕ) → resultBy test book words room ≡ andThen (readBook book) (finePlan test)
+  unfolding plannerResult fittingBook strictResult strictBook first
+  result-is Admission book = fitted-is Admission words room (readBook book)
+  result-is TrueSums book = fitted-is TrueSums words room (andThen (readBook book) fine) ∙ then-assoc (readBook book) fine (fittedPlan TrueSums words room)
+
+  pub free-is : (test : Test) (book : List ℕ) → freeBy test book words room ≡ freeFor (andThen (readBook book) (fineFitting test))
+  unfolding freeWords fittingBook strictFree strictBook first
+  free-is Admission book = refl
+  free-is TrueSums book = ap freeFor (then-assoc (readBook book) fine (fitting words room))
+
+-- refusal 20
+module _ (test : Test) (v : Book) where
+  pub too-coarse : coarse test (v .fineness) ≡ true → fineBy test (problemOf v) ≡ refused TooCoarse 0
+  unfolding problemOf
+  too-coarse e = ap (λ f. checked 0 f (done (problemOf v))) (first-here TooCoarse [] (coarse test (v .fineness)) e)
+
+  pub fine-enough : coarse test (v .fineness) ≡ false → fineBy test (problemOf v) ≡ done (problemOf v)
+  unfolding problemOf
+  fine-enough e = ap (λ f. checked 0 f (done (problemOf v))) (first-last TooCoarse (coarse test (v .fineness)) e)
+
+-- ---- of a book that was read
 
 -- p says which choice is the plan of a book
 module _ (p : Problem → Option Choice) (b : Problem) where

@@ -17,7 +17,7 @@ ghost use Rattle.model.specs.Demand.{Answered, Demand3};
 ghost use Rattle.model.specs.Values.{Held, problemOf};
 ghost use Rattle.grid.specs.Geometry.{GridIs};
 ghost use Rattle.found.specs.Found.{planBy};
-ghost use Rattle.planner.specs.Planner.{fittedPlan};
+ghost use Rattle.planner.specs.Planner.{fittedPlan, coarse, resultBy, freeBy};
 
 // The planner for a book that fits: refusal 12 or 17, or the sheet.
 fn plan_for(book: Book, grid: Grid, work: &mut [u64], sheet: &mut [u8], test: Test) -> Answer
@@ -40,7 +40,7 @@ fn plan_for(book: Book, grid: Grid, work: &mut [u64], sheet: &mut [u8], test: Te
 }
 
 // The planner for a book that was read: refusals 9 to 12 and 17, or the sheet.
-pub fn plan_book(book: Book, work: &mut [u64], sheet: &mut [u8], test: Test) -> Answer
+fn plan_book(book: Book, work: &mut [u64], sheet: &mut [u8], test: Test) -> Answer
     requires { ⌜ Held book ⌝ }
     ensures result { λ r. ⌜ Writes (fittedPlan test (length (now (work .entry))) (length (now (sheet .entry))) (problemOf book)) (now (sheet .entry)) (now (sheet .exit)) r ⌝ }
     ensures words { λ _. ⌜ WordsKept (freeFor (fitting (length (now (work .entry))) (length (now (sheet .entry))) (problemOf book))) (now (work .entry)) (now (work .exit)) ⌝ }
@@ -53,6 +53,33 @@ pub fn plan_book(book: Book, work: &mut [u64], sheet: &mut [u8], test: Test) -> 
     plan_for(book, grid, work, sheet, test)
 }
 
+// Whether refusal 20 applies to a book of this fineness.
+fn too_coarse(test: Test, fineness: u64) -> bool
+    ensures { λ r. ⌜ r ≡ coarse test fineness ⌝ }
+{
+    match test {
+        Test::Admission => false,
+        Test::TrueSums => fineness == 1,
+    }
+}
+
+// The plain or the strict planner, by the test. It takes the book's bytes, as a book that is handed over by value is copied.
+pub fn plan_by(book: &[u8], work: &mut [u64], sheet: &mut [u8], test: Test) -> Answer
+    ensures result { λ r. ⌜ Writes (resultBy test (now (book .entry)) (length (now (work .entry))) (length (now (sheet .entry)))) (now (sheet .entry)) (now (sheet .exit)) r ⌝ }
+    ensures words { λ _. ⌜ WordsKept (freeBy test (now (book .entry)) (length (now (work .entry))) (length (now (sheet .entry)))) (now (work .entry)) (now (work .exit)) ⌝ }
+{
+    let reading = book::read_book(book);
+    let answer = reading.answer;
+    if answer.number != 0 {
+        return answer;
+    }
+    let read = reading.book;
+    if too_coarse(test, read.fineness) {
+        return Answer::refusal(Refusal::TooCoarse, 0);
+    }
+    plan_book(read, work, sheet, test)
+}
+
 // The planner: the sheet of the plan, or the first refusal of 1 to 12 and 17.
 pub fn plan(book: &[u8], work: &mut [u64], sheet: &mut [u8]) -> Answer
     ensures result { λ r. ⌜ Writes (plannerResult (now (book .entry)) (length (now (work .entry))) (length (now (sheet .entry)))) (now (sheet .entry)) (now (sheet .exit)) r ⌝ }
@@ -60,10 +87,5 @@ pub fn plan(book: &[u8], work: &mut [u64], sheet: &mut [u8]) -> Answer
     ensures answered { λ r. ⌜ Answered (now (book .entry)) (length (now (work .entry))) (length (now (sheet .entry))) (r .number) ⌝ }
     ensures demand { λ r. ⌜ (r .number ≡ 0 → Demand3 (now (book .entry)) (now (sheet .exit))) ⌝ }
 {
-    let reading = book::read_book(book);
-    let answer = reading.answer;
-    if answer.number != 0 {
-        return answer;
-    }
-    plan_book(reading.book, work, sheet, Test::Admission)
+    plan_by(book, work, sheet, Test::Admission)
 }

@@ -1,54 +1,16 @@
--- `strict::plan_strict` meets its contract: a refusal of the book is passed on, 20 where d is 1, and else the book is planned by its true sums. Assumes nothing.
-use mathlib.Core.Path.{refl, sym, ap, subst, _∙_}
+-- `strict::plan_strict` meets its contract: it is `plan_by` with the strict test, and the theorems follow from what that writes. Assumes nothing.
+use mathlib.Core.Path.{sym, ap, subst, _∙_}
 use lib.ListN.{length}
-use Rattle.model.specs.Refusals.{andThen}
-use Rattle.model.specs.Trials.{WordsKept}
-use Rattle.model.specs.Calls.{fitting, freeFor}
-use Rattle.model.proofs.AnswerLaws.{writes-same, refused-writes}
-use Rattle.model.proofs.ReadingLaws.{reading-held, reading-done, reading-refused}
-use Rattle.scan.specs.declared.Test.the-variants.{TrueSums}
-use Rattle.planner.specs.Planner.{fittedPlan}
-use Rattle.strict.proofs.CallLaws.{fineFitting, finePlan, strict-is, free-is, too-coarse, fine-enough, every-clause}
+use Rattle.model.specs.declared.Answer.{Answer}
+use Rattle.model.specs.Answers.{Writes}
+use Rattle.model.specs.Strict.{strictResult, NeverAbove}
+use Rattle.model.proofs.StrictGivenLaws.{strict-answered-as, never-above, no-margin}
 use borrow.Author.Needs.{needs}
 use Rattle.strict.proofs.plan_strict.Statement.{statement}
 use Rattle.strict.proofs.plan_strict.Tie as tie
 
-read-book-requires : tie.Need-read-book-requires
-read-book-requires c κs = search needs
-
-returns : tie.Need-returns
-returns c =
-    let a = c .before .before .before .before .before .before .before .args in
-    let r = c .before .before .before .read-book in
-    let words = length (a .work .now) in
-    let room = length (a .sheet .now) in
-    every-clause (a .book .now) (a .work .now) (a .sheet .now)
-    (writes-same (sym (strict-is words room (a .book .now)))
-    (reading-refused (a .book .now) (r .result) (r .ensures) (finePlan words room) (a .sheet .now) (c .if1 .taken)))
-    (record { same-length = refl; kept = refl })
-
-refusal-requires : tie.Need-refusal-requires
-refusal-requires c κs = search needs
-
-returns-2 : tie.Need-returns-2
-returns-2 c =
-    let a = c .before .before .before .before .before .before .before .before .before .before .before .args in
-    let r = c .before .before .before .before .before .before .before .read-book in
-    let words = length (a .work .now) in
-    let room = length (a .sheet .now) in
-    let z = c .before .before .before .before .if1 .left in
-    let coarse = too-coarse (r .result .book) (c .before .if2 .taken) in
-    every-clause (a .book .now) (a .work .now) (a .sheet .now)
-    (refused-writes _ _ _ (a .sheet .now) _ (c .refusal .ensures)
-    (strict-is words room (a .book .now)
-    ∙ sym (reading-done (a .book .now) (r .result) (r .ensures) (finePlan words room) z)
-    ∙ ap (λ x. andThen x (fittedPlan TrueSums words room)) coarse))
-    (record { same-length = refl; kept = refl })
-
-plan-book-requires : tie.Need-plan-book-requires
-plan-book-requires c κs =
-    let r = c .before .before .before .before .before .before .before .before .read-book in
-    reading-held _ (r .result) (r .ensures) (c .before .before .before .before .before .if1 .left)
+plan-by-requires : tie.Need-plan-by-requires
+plan-by-requires c κs = search needs
 
 same-length : tie.Need-same-length
 same-length c = search needs
@@ -56,35 +18,26 @@ same-length c = search needs
 same-length-2 : tie.Need-same-length-2
 same-length-2 c = search needs
 
-returns-3 : tie.Need-returns-3
-returns-3 c =
-    let a = c .before .before .before .before .before .before .before .before .before .before .before .before .before .before .before .before .before .args in
-    let r = c .before .before .before .before .before .before .before .before .before .before .before .before .before .read-book in
-    let p = c .before .before .before .before .plan-book in
+returns : tie.Need-returns
+returns c =
+    let a = c .before .before .before .before .before .before .before .before .before .before .args in
+    let p = c .before .before .before .before .plan-by .ensures in
     let words = length (a .work .now) in
     let room = length (a .sheet .now) in
-    let z = c .before .before .before .before .before .before .before .before .before .before .if1 .left in
-    let enough = fine-enough (r .result .book) (c .before .before .before .before .before .before .before .if2 .left) in
-    every-clause (a .book .now) (a .work .now) (a .sheet .now)
-    (writes-same
-    (sym (ap (λ x. andThen x (fittedPlan TrueSums words room)) enough)
-    ∙ reading-done (a .book .now) (r .result) (r .ensures) (finePlan words room) z
-    ∙ sym (strict-is words room (a .book .now)))
-    (p .ensures .0))
-    (subst (λ n. WordsKept n (a .work .now) (p .last .1 .0))
-    (ap freeFor (sym (ap (λ x. andThen x (fitting words room)) enough) ∙ reading-done (a .book .now) (r .result) (r .ensures) (fineFitting words room) z)
-    ∙ sym (free-is words room (a .book .now)))
-    (p .ensures .1))
+    let w : Writes (strictResult (a .book .now) words room) (a .sheet .now) _ _ = p .0 in
+    let e = ap (λ (x : Answer). x .number) (w .answers) in (
+      w,
+      (
+        p .1,
+        (
+          strict-answered-as (a .book .now) words room _ (w .answers),
+          (
+            λ n. subst (NeverAbove (a .book .now) words room) (sym (w .leaves)) (never-above (a .book .now) words (a .sheet .now) (sym e ∙ n)),
+            λ n. no-margin (a .book .now) words room (sym e ∙ n),
+          ),
+        ),
+      ),
+    )
 
 pub plan-strict-spec : {M : Type 1} → statement M
-plan-strict-spec =
-    tie.close
-    (tie.spec
-    read-book-requires
-    returns
-    refusal-requires
-    returns-2
-    plan-book-requires
-    same-length
-    same-length-2
-    returns-3)
+plan-strict-spec = tie.close (tie.spec plan-by-requires same-length same-length-2 returns)

@@ -1,2 +1,0 @@
--- Laws that the function's proof cites.
-pub mod CallLaws
