@@ -54,7 +54,7 @@ static int read_book(const char *name, uint8_t *buffer, size_t *length)
     return status;
 }
 
-/* A planner with a work area, which is lent what is large enough for every book. 0, or 2 where there is no memory. */
+/* Runs a planner with a work area that is large enough for every book. 0, or 2 where there is no memory. */
 static int run_planner(planner run, const uint8_t *book, size_t length, uint8_t *sheet, jadeshuttle_answer *answer)
 {
     uint64_t *work = (uint64_t *)malloc(JADESHUTTLE_WORK_MAX * sizeof *work);

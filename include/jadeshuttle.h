@@ -84,7 +84,7 @@
  * `order`, `view`, and `out`. What is only read may be shared.
  *
  * STACK, HEAP  Nothing is allocated. Stack used by a call, as measured on x86-64
- * Linux: planner and strict planner up to 87 KiB, day up to 92 KiB, as its output waits
+ * Linux: planner and strict planner up to 86 KiB, day up to 91 KiB, as its output waits
  * there until it is known to fit, quick planner up to 57 KiB, sheet reader, charge,
  * order and views up to 35 KiB. Leave 128 KiB of stack for a call.
  *
@@ -226,18 +226,19 @@ jadeshuttle_answer jadeshuttle_plan(const uint8_t *book, size_t book_len,
 /*
  * The strict planner: never above the limit. It takes what jadeshuttle_plan takes, and
  * answers in the same form. A choice's grid pair in a slot is the sum of its P and the
- * sum of its Q in steps of L, each P and Q rounded down before adding. The strict
- * planner compares one choice for each list of grid pairs, one pair a slot: of the
- * choices that have those pairs, the one of greatest worth, and among equals the one
- * with the smallest code. Every choice runs the loads that must run. Of the compared
- * choices, it writes the sheet of the best, by the same two rules, that has
- * P*P + Q*Q <= S*S in every slot, with P and Q the true sums. The trials are the
- * book's, as with jadeshuttle_plan.
+ * sum of its Q in steps of L, each P and Q, standing pairs too, rounded toward minus
+ * infinity before adding. The strict planner compares one choice for each list of grid
+ * pairs, one pair a slot: of the choices that have those pairs, the one of greatest
+ * worth, and among equals the one with the smallest code. Every choice runs the loads
+ * that must run. Of the compared choices, it writes the sheet of the best, by the same
+ * two rules, that has P*P + Q*Q <= S*S in every slot, with P and Q the true sums. The
+ * trials are the book's, as with jadeshuttle_plan.
  *
- * Gives 1 to 8; 20 where d is 1; 9 to 12; and then 17, exactly where none of these
- * applies and none of the compared choices fits. That can be right though another
- * choice with the pairs of a compared one fits, which is worth less, or as much and
- * has a larger code.
+ * Gives 1 to 8; 20 where d is 1; 9 to 12; and then 17. There is a sheet exactly where
+ * no refusal applies, and 17 exactly where none of those before it does and none of the
+ * compared choices keeps the limits. Another choice may keep them all the same: one
+ * with the pairs of a compared choice, that is worth less, or as much and has a larger
+ * code.
  *
  * Of every sheet it gives, for each r:
  *   - P*P + Q*Q <= S*S in every slot;
@@ -245,22 +246,26 @@ jadeshuttle_answer jadeshuttle_plan(const uint8_t *book, size_t book_len,
  *     more;
  *   - jadeshuttle_plan, with as many words and as long a buffer, gives a sheet too,
  *     and it is worth at least as much.
- * Where some choice has that margin, 17 is not given; in a book with 02 lines only, all
- * standing has it.
+ * Where some choice has the margin of the second point, 17 is not given; in a book with
+ * 02 lines only, all standing has it. With d of 2 or more, and where the sheet of
+ * jadeshuttle_plan keeps the limits, both calls, with as many words and as long a
+ * buffer, give the same answer and the same sheet.
  *
  * STRICT OR PLAIN  Where S must not be exceeded, as where it is a relay's setting, take
- * this call, with d as large as the cells allow: the margin is 2/d of S. It may pass
- * over a choice that keeps the limits and is worth more, and the coarser d is, the more
- * such choices there can be. Where S was chosen so that (1 + 3/(2*d)) * S may flow,
- * take jadeshuttle_plan, which passes over none of them. Where the sheet of
- * jadeshuttle_plan keeps the limits, both give the same sheet.
+ * this call, with d as large as the cells allow: the margin is 2/d of S.
+ * jadeshuttle_plan with S lowered to 2*d/(2*d+3) of it, rounded down, keeps S too, and
+ * promises more about worth; its sheet may be worth less or more. This call may pass
+ * over a choice that keeps the limits and is worth more, and the smaller d is, the more
+ * such choices there can be. Where it gives 17, jadeshuttle_quick may still give a
+ * sheet, which keeps the limits. Where S was chosen so that (1 + 3/(2*d)) * S may flow,
+ * take jadeshuttle_plan, which passes over none of these choices.
  *
  * Words, and which of them are free afterwards, are as with jadeshuttle_plan; 20
  * changes no word. Where jadeshuttle_plan asks whether a cell is admitted, this call
  * adds up the true sums of the cell's choice. Measured on x86-64: four books of up to
  * 17 million trials took 1.0 to 1.2 times as long as with jadeshuttle_plan, and the
- * worst that were found, in which every cell has to be tested, 4 to 7 times. Nothing
- * is promised about time.
+ * worst that were found, in which every cell that is reached has to be tested, so two
+ * books of harness/, 4 to 7 times. Nothing is promised about time.
  */
 jadeshuttle_answer jadeshuttle_plan_strict(const uint8_t *book, size_t book_len,
                                            uint64_t *work, size_t work_len,

@@ -113,6 +113,12 @@ pub const SMALL: Bounds = Bounds {
     ratios: ANY_RATIO,
 };
 
+/// The same that are not too coarse.
+pub const FINE: Bounds = Bounds {
+    least_fineness: 2,
+    ..SMALL
+};
+
 const LARGER: Bounds = Bounds { cells: 60_000, ..SMALL };
 
 const MANY: Bounds = Bounds {
@@ -744,8 +750,8 @@ fn none_admitted(session: &mut Session) {
     refused_last(session, &case);
 }
 
-/// A book of which no choice is admitted (17), also where words, buffer or budget are short too: 10, 11 and 12 come before it. No
-/// answer depends on the words that it left.
+/// A book that gets 17 from the planner, the strict planner or both, also where words, buffer or budget are short too: 10, 11 and
+/// 12 come before it. No answer depends on the words that it left.
 fn refused_last(session: &mut Session, case: &Case) {
     all_shortages(session, case);
     let (words, buffer) = (needed_words(case) + session.random.below(50), case.sheet_bytes());

@@ -147,8 +147,8 @@ const KEPT_WORDS: &[Alteration] = &[
     ("last word lent", |call| call.work.flip_from_end(-1)),
 ];
 
-/// For the planner, the strict planner and a day: free after a sheet and after refusals 12 and 17, so where one of a day's books has them, also
-/// with 19; and to be reported after any other.
+/// For the planner, the strict planner and a day: free after a sheet and after refusals 12 and 17, so where one of a day's books
+/// has them, also with 19; and to be reported after any other.
 const NEEDED_WORDS: &[Alteration] = &[
     ("first needed word", |call| call.work.flip(0)),
     ("last needed word", |call| call.work.flip(NEED as isize - 1)),
@@ -357,8 +357,9 @@ const GROUPS: &[(Books, &[&[Mistake]])] = &[
     (ratios::OVERSIZE, &[ratios::OVERSIZE_MISTAKES]),
     (ratios::NEAR, &[ratios::SLACK_MISTAKES]),
     (ratios::HEADERS, &[ratios::HEADER_MISTAKES]),
-    (strict::FINE, &[strict::COMPARED_MISTAKES, strict::LIMIT_MISTAKES]),
-    (strict::COARSE, &[strict::COARSE_MISTAKES]),
+    (strict::FINE_BOOKS, &[strict::COMPARED_MISTAKES, strict::LIMIT_MISTAKES]),
+    (strict::COARSE_BOOKS, &[strict::COARSE_MISTAKES]),
+    (strict::FAULTY_BOOKS, &[strict::FAULT_MISTAKES]),
     (days::DAYS, &[days::PARTING_MISTAKES, days::ANSWER_MISTAKES]),
 ];
 

@@ -1,4 +1,4 @@
--- Laws of `nearest`, `admits_pair` and `admits_cell`: one slot's test, and the slots one after the other.
+-- Laws of `nearest`, `admits_pair` and `admits_cell`: one slot's test, the slots one after the other, and the slots of a book.
 -- Assumes nothing.
 use Prim.Native.Nat.{ℕ, suc, _+_, _-_, _*_, _/_, _%_, _<_, _≤_}
 use mathlib.Core.Path.{_≡_, sym, ap, _∙_}
@@ -13,14 +13,17 @@ use lib.ListN.{length, getD, drop}
 use lib.Seq.{drop-cons, drop-length}
 use Rattle.model.specs.Bounds.{mostLoads, mostRatio}
 use Rattle.model.specs.Choice.{square}
-use Rattle.model.specs.Grid.{Slot, admits, leastAbs}
+use Rattle.model.specs.Grid.{Slot, slotsOf, admits, leastAbs}
 use Rattle.model.specs.Trials.{gridTop, widthOf}
 use Rattle.model.specs.Index.{depthOf, pairAt, gridFrom}
 use Rattle.model.specs.Cells.{admitsAll}
+use Rattle.model.specs.declared.Book.{Book}
+use Rattle.model.specs.Values.{Held, problemOf}
 use Rattle.model.proofs.IndexLaws.{width-is}
 use Rattle.model.proofs.IntegerLaws.{sub-pos, sub-neg}
 use Rattle.grid.specs.declared.Grid.{Grid}
-use Rattle.grid.specs.Geometry.{SlotIs, noSlot, entryAt, SlotSound}
+use Rattle.grid.specs.Geometry.{SlotIs, noSlot, entryAt, SlotSound, GridIs}
+use Rattle.grid.proofs.SlotLaws.{slots-length, slot-at, laid}
 use Rattle.admits.specs.Admits.{mostReach, PairFits, SlotsHeld}
 
 -- ---- the q nearest to 0
@@ -61,7 +64,7 @@ lengths-small s h =
     (top, omega (arith, mul-le-mul (h .ratio-few) both, mul-assoc (s .ratio) (gridTop s) (s .step), mul-assoc (s .ratio) (s .loads) (s .step)))
 
 module _ (s : Slot) {t : ℕ} (h : SlotSound t s) (a b : ℕ) where
-  pub pair-fits : PairFits (a % (gridTop s + 1)) (b % widthOf s) (depthOf s) (s .step) (s .loads) (s .limit)
+  pair-fits : PairFits (a % (gridTop s + 1)) (b % widthOf s) (depthOf s) (s .step) (s .loads) (s .limit)
   pair-fits =
       let R : ℕ = gridTop s in
       let L : ℕ = s .step in
@@ -134,3 +137,14 @@ module _ {v : Grid} {count : ℕ} {limits : List ℕ} (h : SlotsHeld v count lim
 
   pub from-end : (t a b : ℕ) → v .slots ≤ t → t ≤ v .slots → true ≡ admitsFrom t a b
   from-end t a b k l = let e : t ≡ length (h .laid .slots) = omega (arith, h .laid .is .slots-are) in rw (e, drop-length)
+
+-- ---- the slots of a book, with its number of loads and its limits
+
+unfoldable pub slots-held : (v : Book) → Held v → (grid : Grid) → GridIs (slotsOf (problemOf v)) grid → SlotsHeld grid (v .count) (v .limits)
+unfolding laid
+slots-held v held grid is =
+    record {
+      laid = laid v held grid is;
+      loads-are = λ t l. ap (λ (s : Slot). s .loads) (slot-at v held t (omega (arith, slots-length v held)));
+      limits-are = λ t l. sym (ap (λ (s : Slot). s .limit) (slot-at v held t (omega (arith, slots-length v held))));
+    }

@@ -238,9 +238,9 @@ fn strict_plans() {
     let mill = b"010103080000006414B9\n0201003C08A1060A\n0201002806E70450\n0201001904500373\n";
     plan_case(b"above", mill, &mut work, &mut sheet);
     strict_case(b"never above", mill, &mut work, &mut sheet);
-    let drum = b"01010102000000020064\n0702000100640000000200950000\n";
-    plan_case(b"same pairs", drum, &mut work, &mut sheet);
-    strict_case(b"same pairs", drum, &mut work, &mut sheet);
+    let two_levels = b"01010102000000020064\n0702000100640000000200950000\n";
+    plan_case(b"same pairs", two_levels, &mut work, &mut sheet);
+    strict_case(b"same pairs", two_levels, &mut work, &mut sheet);
     let spent = b"01010102000000010064\n0702000100640000000200950000\n";
     strict_case(b"spent", spent, &mut work, &mut sheet);
 }
@@ -250,9 +250,9 @@ fn refused_strictly() {
     let mut cramped = [77u64; 71];
     let mut work = [77u64; 72];
     let mut sheet = [46u8; 43];
-    let drum = b"01010102000000020064\n0702000100640000000200950000\n";
-    strict_case(b"cramped", drum, &mut cramped, &mut sheet);
-    strict_case(b"no sheet", drum, &mut work, &mut sheet);
+    let two_levels = b"01010102000000020064\n0702000100640000000200950000\n";
+    strict_case(b"cramped", two_levels, &mut cramped, &mut sheet);
+    strict_case(b"no sheet", two_levels, &mut work, &mut sheet);
     let coarse = b"01010101000000020064\n0702000100640000000200950000\n";
     strict_case(b"too coarse", coarse, &mut cramped, &mut sheet);
 }

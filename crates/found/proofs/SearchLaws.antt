@@ -14,7 +14,7 @@ use Rattle.model.specs.declared.Book.{Book}
 use Rattle.model.specs.Lists.{Every}
 use Rattle.model.specs.Book.{Settings}
 use Rattle.model.specs.Choice.{Choice, codeOf}
-use Rattle.model.specs.Grid.{Slot, slotsOf, plan}
+use Rattle.model.specs.Grid.{slotsOf, plan}
 use Rattle.model.specs.Strict.{strictPlan}
 use Rattle.model.specs.Trials.{cells, neededWords, WordsKept, trials, trialsUpto}
 use Rattle.model.specs.Valid.{Labelled, SettingSmall, SettingBelow, SlotsFor}
@@ -24,17 +24,16 @@ use Rattle.model.proofs.ListLaws.{every-mem, every-of-mem}
 use Rattle.model.proofs.NumberLaws.{number-small}
 use Rattle.model.proofs.AdmissionLaws.{slots-for}
 use Rattle.model.proofs.RecurrenceLaws.{key?}
-use Rattle.model.proofs.ComparedLaws.{cell-coded}
+use Rattle.model.proofs.BestLaws.{cell-coded}
 use Rattle.model.proofs.HeldLaws.{held-valid, held-count, held-few, held-slots}
 use Rattle.table.specs.declared.Cell.{Cell}
 use Rattle.table.specs.Table.{keyOf, keyIf}
 use Rattle.grid.specs.declared.Grid.{Grid}
 use Rattle.grid.specs.Geometry.{GridIs}
-use Rattle.grid.proofs.SlotLaws.{slots-length, slot-at, laid}
+use Rattle.grid.proofs.SlotLaws.{slots-length}
 use Rattle.stretch.specs.declared.LoadMoves.{LoadMoves}
 use Rattle.moves.specs.Moves.{movesOf, LoadIs}
 use Rattle.search.specs.Search.{Modelled, LayerIs, Places, Searched, trialsOf}
-use Rattle.admits.specs.Admits.{SlotsHeld}
 use Rattle.scan.specs.declared.Test.{Test}
 use Rattle.scan.specs.declared.Test.the-variants.{Admission, TrueSums}
 use Rattle.scan.specs.Scan.{testOf, bestOfLayer, LayerCoded}
@@ -67,16 +66,6 @@ cell-some r m = go (r .worth) m
     go (suc w) (some c) e n = (c, refl, ap (λ (x : Key). x .code) (Option·some-injective _ _ e))
 
 module _ (v : Book) (held : Held v) (grid : Grid) (is : GridIs (slotsOf (problemOf v)) grid) where
-  -- what the scan asks of the slots
-  unfoldable pub scanned : SlotsHeld grid (v .count) (v .limits)
-  unfolding laid
-  scanned =
-      record {
-        laid = laid v held grid is;
-        loads-are = λ t l. ap (λ (s : Slot). s .loads) (slot-at v held t (omega (arith, slots-length v held)));
-        limits-are = λ t l. sym (ap (λ (s : Slot). s .limit) (slot-at v held t (omega (arith, slots-length v held))));
-      }
-
   cells-are : grid .cells ≡ cells (problemOf v)
   unfolding cells
   cells-are = is .cells-are
@@ -139,7 +128,7 @@ module _ (v : Book) (held : Held v) (grid : Grid) (is : GridIs (slotsOf (problem
 
   -- the best of its cells that pass a planner's test is that planner's plan
   layer-plan : (ws lows highs : List ℕ) (cur : ℕ) → LayerIs ws lows highs grid (v .count) moves model (v .count) cur
-      → (test : Test) → bestOfLayer (testOf test (slotsOf (problemOf v)) (problemOf v)) ws lows highs grid cur ≡ key? (planBy test (problemOf v))
+      → (test : Test) → bestOfLayer (testOf test (problemOf v)) ws lows highs grid cur ≡ key? (planBy test (problemOf v))
   unfolding plan strictPlan model
   layer-plan ws lows highs cur layer Admission = scan-plan model ws lows highs cur layer
   layer-plan ws lows highs cur layer TrueSums = scan-strict model ws lows highs cur layer (problemOf v) (held-valid v held) refl refl
@@ -158,13 +147,7 @@ module _ (v : Book) (held : Held v) (grid : Grid) (is : GridIs (slotsOf (problem
           planned = λ e. absurd (false≢true e);
         }
 
-    module _ (ws lows highs : List ℕ) (cur : ℕ) (r : Cell)
-        (found : (h : SlotsHeld grid (v .count) (v .limits)) → keyOf r ≡ bestOfLayer (testOf test (h .laid .slots) (problemOf v)) ws lows highs grid cur) where
-      -- what `scan` finds in the layer that `search` leaves
-      scan-finds : LayerIs ws lows highs grid (v .count) moves model (v .count) cur → keyOf r ≡ key? (planBy test (problemOf v))
-      unfolding model laid scanned
-      scan-finds layer = found (scanned v held grid is) ∙ layer-plan ws lows highs cur layer test
-
+    module _ (ws lows highs : List ℕ) (cur : ℕ) (r : Cell) (found : keyOf r ≡ bestOfLayer (testOf test (problemOf v)) ws lows highs grid cur) where
       -- within the budget: the trials, and the plan
       pub found-within : (ts : ℕ) → Searched ws lows highs grid (v .count) moves model (v .budget) cur ts → ts ≤ v .budget
           → Found test (problemOf v) (record { within = true; trials = ts; planned = not (eqb (r .worth) 0); code = r .code })
@@ -172,7 +155,7 @@ module _ (v : Book) (held : Held v) (grid : Grid) (is : GridIs (slotsOf (problem
       found-within ts s h =
           let w = s .within h in
           let t : ts ≡ trials (problemOf v) = w .0 ∙ trials-are in
-          let k = scan-finds (w .1) in
+          let k = found ∙ layer-plan ws lows highs cur (w .1) test in
           record {
             over = λ e. absurd (false≢true (sym e));
             enough = λ e. subst (λ x. x ≤ v .budget) t h;

@@ -18,7 +18,7 @@ pub struct Search {
     pub code: u64,
 }
 
-// Searches the table of a book that fits into the work area; the test says which cells of the last layer are compared.
+// Searches the table of a book that fits into the work area; the test says which cells of the last layer may be the plan.
 pub fn search_for(book: Book, grid: Grid, work: &mut [u64], test: Test) -> Search
     requires { ⌜ Held book ⌝ }
     requires { ⌜ GridIs (slotsOf (problemOf book)) grid ⌝ }

@@ -1,4 +1,4 @@
-// Whether the sums of a choice keep the limits; and of the choice that has a code.
+// Whether the sums of a choice keep the limits, and whether the choice of a code does.
 use model::Book;
 use sums::Sums;
 ghost use mathlib.Core.Path.{_≡_};

@@ -499,10 +499,10 @@ abbrev strictly : String → List ℕ → String → Row
 strictly book numbers out = shows (strictIn 6144) (bytesOf book) [] 4096 numbers out
 
 -- d = 2 and S = 100: one load that must run, at (100, 0) with worth 1 or at (149, 0) with worth 2. L is 50, and both have a = 2
-abbrev drum : String
-drum = "01010102000000640064\n0702000100640000000200950000\n"
+abbrev twoLevels : String
+twoLevels = "01010102000000640064\n0702000100640000000200950000\n"
 
--- examples/close.book: three loads, of which the plain planner runs all, at 116.7 % of S
+-- examples/close.book: three loads, of which the plain planner runs all, at 116.7 % of S, rounded up
 abbrev close : String
 close = "010103080000006414B9\n0201003C08A1060A\n0201002806E70450\n0201001904500373\n"
 
@@ -521,8 +521,8 @@ strictRows =
     -- nothing else is wrong with it
     ∷ strictly "01010101000000640064\n0201000100040004\n" (20 ∷ 0 ∷ 0 ∷ 0 ∷ 0 ∷ []) "FF140000\n"
     -- the compared choice is over the limit: 17, though the other one with the same pairs fits; the plain planner runs it at (149, 0)
-    ∷ strictly drum (17 ∷ 0 ∷ 0 ∷ 0 ∷ 0 ∷ []) "FF110000\n"
-    ∷ prints drum "04000000020000000202\n0500000095000000000064\n"
+    ∷ strictly twoLevels (17 ∷ 0 ∷ 0 ∷ 0 ∷ 0 ∷ []) "FF110000\n"
+    ∷ prints twoLevels "04000000020000000202\n0500000095000000000064\n"
     -- with one trial less in the budget: 12 comes before 17
     ∷ strictly "01010102000000010064\n0702000100640000000200950000\n" (12 ∷ 0 ∷ 0 ∷ 0 ∷ 0 ∷ []) "FF0C0000\n"
     -- where the one that fits is worth more it is the compared one; where both are worth as much, the one of smaller code is
@@ -534,23 +534,30 @@ strictRows =
     -- of two slots each must keep its limit: level 1 is compared, and is over it in slot 2, or in slot 1
     ∷ strictly "010201020000006400640064\n07020002006400000095000000010064000000640000\n" (17 ∷ 0 ∷ 0 ∷ 0 ∷ 0 ∷ []) "FF110000\n"
     ∷ strictly "010201020000006400640064\n07020002009500000064000000010064000000640000\n" (17 ∷ 0 ∷ 0 ∷ 0 ∷ 0 ∷ []) "FF110000\n"
-    -- M-104: it stands at (149, 0), and is compared before it runs at (100, 0) with worth 0: 17, where the plain planner lets it stand
+    -- M-104: standing at (149, 0) is compared, and not running at (100, 0), of the same worth 0 and a larger code: 17, where the plain planner lets it stand
     ∷ strictly "01010102000000640064\n060100950000000000640000\n" (17 ∷ 0 ∷ 0 ∷ 0 ∷ 0 ∷ []) "FF110000\n"
     ∷ prints "01010102000000640064\n060100950000000000640000\n" "04000000000000000200\n0500000095000000000064\n"
     -- M-108: under a header that states r = 3, at (30, -90), and at (40, -120), which is over the limit
     ∷ strictly "0801010203000000640064\n07010001001EFFA6\n" (0 ∷ 0 ∷ 44 ∷ 1 ∷ 1 ∷ []) "04000000010000000101\n050000001EFFFFFFA60064\n"
     ∷ strictly "0801010203000000640064\n070100010028FF88\n" (17 ∷ 0 ∷ 0 ∷ 0 ∷ 0 ∷ []) "FF110000\n"
+    -- of two compared choices of equal worth, with other pairs, the one of smaller code, whichever draws more
+    ∷ strictly "01010102000000640064\n0202000100640000000100280000\n" (0 ∷ 0 ∷ 44 ∷ 1 ∷ 3 ∷ []) "04000000010000000301\n0500000064000000000064\n"
+    ∷ strictly "01010102000000640064\n0202000100280000000100640000\n" (0 ∷ 0 ∷ 44 ∷ 1 ∷ 3 ∷ []) "04000000010000000301\n0500000028000000000064\n"
+    -- d = 3 and S = 24: (16, 0) has d²P² = (d - 1)²S², which is too much for the margin: (23, 7) has its pairs, is compared and is over the limit
+    ∷ strictly "01010103000000640018\n0702000100100000000200170007\n" (17 ∷ 0 ∷ 0 ∷ 0 ∷ 0 ∷ []) "FF110000\n"
     -- one mill by both: the plain planner runs all three loads, above the limit, the strict one the best two that keep it
     ∷ strictly close (0 ∷ 0 ∷ 48 ∷ 100 ∷ 14 ∷ []) "04000000640000000E010100\n0500000F8800000A5A14B9\n"
     ∷ prints close "040000007D0000000E010101\n05000013D800000DCD14B9\n"
     -- the words and the room that are needed, and one less; 10 comes before 11
-    ∷ shows (strictIn 72) (bytesOf drum) [] 44 (17 ∷ 0 ∷ 0 ∷ 0 ∷ 0 ∷ []) "FF110000\n"
-    ∷ shows (strictIn 71) (bytesOf drum) [] 43 (10 ∷ 0 ∷ 0 ∷ 0 ∷ 0 ∷ []) "FF0A0000\n"
-    ∷ shows (strictIn 72) (bytesOf drum) [] 43 (11 ∷ 0 ∷ 0 ∷ 0 ∷ 0 ∷ []) "FF0B0000\n"
-    -- the words that it may change: with 17 as many as are needed, with 10, 11 and 20 none
-    ∷ strictFrees drum 100 44 72
-    ∷ strictFrees drum 71 44 0
-    ∷ strictFrees drum 72 43 0
+    ∷ shows (strictIn 72) (bytesOf twoLevels) [] 44 (17 ∷ 0 ∷ 0 ∷ 0 ∷ 0 ∷ []) "FF110000\n"
+    ∷ shows (strictIn 71) (bytesOf twoLevels) [] 43 (10 ∷ 0 ∷ 0 ∷ 0 ∷ 0 ∷ []) "FF0A0000\n"
+    ∷ shows (strictIn 72) (bytesOf twoLevels) [] 43 (11 ∷ 0 ∷ 0 ∷ 0 ∷ 0 ∷ []) "FF0B0000\n"
+    -- the words that it may change: with 17, 12 and a sheet as many as are needed, with 10, 11 and 20 none
+    ∷ strictFrees twoLevels 100 44 72
+    ∷ strictFrees "01010102000000010064\n0702000100640000000200950000\n" 100 44 72
+    ∷ strictFrees "01010102000000640064\n0702000200640000000100950000\n" 100 44 72
+    ∷ strictFrees twoLevels 71 44 0
+    ∷ strictFrees twoLevels 72 43 0
     ∷ strictFrees "01010101000000640064\n0201000100040004\n" 6144 4096 0
     ∷ []
 

@@ -15,7 +15,7 @@ use Rattle.model.specs.Grid.{Slot, spreadOf, slotsFrom, slotsOf, keepsLi
 use Rattle.model.specs.Trials.{gridTop}
 use Rattle.model.specs.Index.{up, down}
 use Rattle.model.specs.Valid.{SlotsFor}
-use Rattle.model.proofs.ListLaws.{both, each}
+use Rattle.model.proofs.ListLaws.{both, each, all-is, every-imp}
 use Rattle.model.proofs.Squares.{sq-mono, sq-cancel}
 use Rattle.model.proofs.IntegerLaws.{as-sub, neg-sub, abs-sub, sub-add, sub-same, times-sub, times-add}
 
@@ -80,19 +80,17 @@ of-admits s g t =
 pub admits-is : (s : Slot) (g : GridPair) → T (admits s g) ↔ Admissible s g
 admits-is s g = (of-admits s g, admits-of s g)
 
-all-admissible : (slots : List Slot) (c : Choice) → T (admitted slots c) → Admitted slots c
-all-admissible [] c t = tt
-all-admissible (s ∷ slots) c t =
-    let h : T (admits s (gridIn s c)) × T (admitted slots c) = both (admits s (gridIn s c)) (admitted slots c) t in
-    (of-admits s (gridIn s c) (h .0), all-admissible slots c (h .1))
-
-all-admitted : (slots : List Slot) (c : Choice) → Admitted slots c → T (admitted slots c)
-all-admitted [] c h = tt
-all-admitted (s ∷ slots) c h =
-    each (admits s (gridIn s c)) (admitted slots c) (admits-of s (gridIn s c) (h .0)) (all-admitted slots c (h .1))
-
 pub admitted-is : (slots : List Slot) (c : Choice) → T (admitted slots c) ↔ Admitted slots c
-admitted-is slots c = (all-admissible slots c, all-admitted slots c)
+admitted-is slots c = (
+  λ t. every-imp passes admissible (λ s. of-admits s (gridIn s c)) slots (all-is (λ s. admits s (gridIn s c)) slots .0 t),
+  λ h. all-is (λ s. admits s (gridIn s c)) slots .1 (every-imp admissible passes (λ s. admits-of s (gridIn s c)) slots h),
+)
+  where
+    passes : Slot → Type 0
+    passes s = T (admits s (gridIn s c))
+
+    admissible : Slot → Type 0
+    admissible s = Admissible s (gridIn s c)
 
 -- ---- the true sums are near the grid
 

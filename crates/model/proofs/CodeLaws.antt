@@ -18,7 +18,7 @@ use Rattle.model.proofs.UptoLaws.{upto-is}
 use Rattle.model.proofs.ValidLaws.{load-labelled}
 use Rattle.model.proofs.PlanLaws.{chosen-length}
 
-pub code-back : (loads : List Settings) (c : Choice) → Every Labelled loads → IsChoice loads c
+code-back : (loads : List Settings) (c : Choice) → Every Labelled loads → IsChoice loads c
     → decode (length loads) (codeOf c) ≡ map (λ (v : Setting). v .number) c
 code-back [] [] h m = refl
 code-back [] (v ∷ c) h m = absurd m

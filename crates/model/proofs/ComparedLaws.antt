@@ -5,57 +5,26 @@ use mathlib.Core.Bool.{Bool, true, false, cond, not, _&&_}
 use mathlib.Core.Logic.{_↔_}
 use mathlib.Core.List.{List}
 use mathlib.Core.Option.{Option, none, some}
-use Prim.Native.Nat.{ℕ, _<_, _≤_}
+use Prim.Native.Nat.{ℕ, _<_}
 use native.Mathlib.Omega.{arith}
 use lib.Dec.{T, eqb, eqb→eq}
-use lib.ListN.{length}
-use Rattle.model.specs.Lists.{Every, keep, sameLists}
+use Rattle.model.specs.Lists.{keep}
 use Rattle.model.specs.Book.{Settings}
-use Rattle.model.specs.Choice.{Choice, IsChoice, choices}
-use Rattle.model.specs.Grid.{Slot, keepsLimits, gridsOf, better, best}
-use Rattle.model.specs.Trials.{cellCount, samePair}
-use Rattle.model.specs.Strict.{samePairs, compared, bestKeeping}
+use Rattle.model.specs.Choice.{Choice, IsChoice, choices, codeOf}
+use Rattle.model.specs.Grid.{Slot, keepsLimits, gridsOf, better}
+use Rattle.model.specs.Trials.{cellCount}
+use Rattle.model.specs.Strict.{samePairs, compared, comparedKeeping, bestKeeping}
 use Rattle.model.specs.Valid.{Ready}
 use Rattle.model.specs.Cells.{Key, beats, choiceKey, passing, bestWhere, bestAt, joinUpto, rangeAll, hasCell, cellBest}
 use Rattle.model.specs.Index.{indexOf}
 use Rattle.model.proofs.ListLaws.{both, each, all-is, every-imp}
-use Rattle.model.proofs.KeyLaws.{Versus, versus, neither}
 use Rattle.model.proofs.AdmissionLaws.{keeps-admitted}
 use Rattle.model.proofs.RecurrenceLaws.{key?, best-key, admitted-grids}
-use Rattle.model.proofs.PlanLaws.{choices-are, chosen-in, chosen-length, kept-sound, kept-best, kept-none}
+use Rattle.model.proofs.PlanLaws.{choices-are, chosen-in, chosen-length}
+use Rattle.model.proofs.BestLaws.{BestOf, KeyWhere, same-best, best-one, where-best}
 use Rattle.model.proofs.CellLaws.{best-by-cell}
-use Rattle.model.proofs.IndexLaws.{WithinAll, index-below, index-same, pairs-eq, pairs-refl}
+use Rattle.model.proofs.IndexLaws.{WithinAll, index-below, index-same, pairs-eq, pairs-same}
 use Rattle.model.proofs.TableLaws.{choices-within, range-admits}
-
--- ---- the best of the keys that have a property
-
-abbrev BestOf : (Key → Type 0) → Option Key → Type 0
-BestOf P none = (k : Key) → P k → ⊥
-BestOf P (some k) = P k × ((x : Key) → P x → beats x k ≡ false)
-
--- two keys of which none beats the other
-same-best : (j k : Key) → beats k j ≡ false → beats j k ≡ false → j ≡ k
-same-best j k a b = neither j k (subst (Versus k j) a (versus k j)) (subst (Versus j k) b (versus j k))
-
-best-one : (P : Key → Type 0) (m n : Option Key) → BestOf P m → BestOf P n → m ≡ n
-best-one P none none a b = refl
-best-one P none (some k) a b = absurd (a k (b .0))
-best-one P (some j) none a b = absurd (b j (a .0))
-best-one P (some j) (some k) a b = ap some (same-best j k (a .1 k (b .0)) (b .1 j (a .0)))
-
--- the keys of the choices that pass a test
-abbrev KeyWhere : (Choice → Bool) → List Settings → Key → Type 0
-KeyWhere p loads k = (c : Choice) × IsChoice loads c × T (p c) × (choiceKey c ≡ k)
-
-where-best : (p : Choice → Bool) (loads : List Settings) → BestOf (KeyWhere p loads) (bestWhere p (choices loads))
-where-best p loads = subst (BestOf (KeyWhere p loads)) (best-key (keep p (choices loads))) (go (best (keep p (choices loads))) refl)
-  where
-    go : (m : Option Choice) → best (keep p (choices loads)) ≡ m → BestOf (KeyWhere p loads) (key? m)
-    go none e = λ k x. kept-none p loads e (x .0) (x .1) (x .2)
-    go (some d) e = (
-      (d, kept-sound p loads d e .0, kept-sound p loads d e .1, refl),
-      λ k x. subst (λ y. beats y (choiceKey d) ≡ false) (x .3) (kept-best p loads d e (x .0) (x .1) (x .2)),
-    )
 
 -- ---- compared choices
 
@@ -71,7 +40,7 @@ compared-is slots loads c = (
     worse d = not (samePairs slots c d && better d c)
 
     to : (d : Choice) → gridsOf slots d ≡ gridsOf slots c → T (worse d) → better d c ≡ false
-    to d e t = go (samePairs slots c d) (better d c) (subst (λ g. T (sameLists samePair (gridsOf slots c) g)) (sym e) (pairs-refl (gridsOf slots c))) t
+    to d e t = go (samePairs slots c d) (better d c) (pairs-same (gridsOf slots c) (gridsOf slots d) e) t
       where
         go : (s u : Bool) → T s → T (not (s && u)) → u ≡ false
         go true true a b = absurd b
@@ -88,9 +57,9 @@ compared-is slots loads c = (
 
 -- ---- the plan from the cells
 
--- where t says of the key of each choice whether it keeps the limits
-module _ (r n : ℕ) (slots : List Slot) (loads : List Settings) (h : Ready r n slots loads) (t : Key → Bool)
-    (test : (c : Choice) → IsChoice loads c → keepsLimits slots c ≡ t (choiceKey c)) where
+-- where t says of the code of each choice whether it keeps the limits
+module _ (r n : ℕ) (slots : List Slot) (loads : List Settings) (h : Ready r n slots loads) (t : ℕ → Bool)
+    (test : (c : Choice) → IsChoice loads c → keepsLimits slots c ≡ t (codeOf c)) where
   -- the pairs of a choice that keeps the limits are in range
   in-range : (c : Choice) → IsChoice loads c → T (keepsLimits slots c) → T (rangeAll slots (gridsOf slots c))
   in-range c m k =
@@ -105,7 +74,7 @@ module _ (r n : ℕ) (slots : List Slot) (loads : List Settings) (h : Ready r n 
 
   -- a choice that the planner may return, and whose cell is i
   abbrev taken : Choice → Bool
-  taken c = keepsLimits slots c && compared slots loads c
+  taken = comparedKeeping slots loads
 
   abbrev takenAt : ℕ → Choice → Bool
   takenAt i c = taken c && eqb (cellOf c) i
@@ -133,23 +102,26 @@ module _ (r n : ℕ) (slots : List Slot) (loads : List Settings) (h : Ready r n 
     -- of the choices of a cell none but the best is compared
     at-best : (m : Option Key) → BestOf (KeyWhere (λ c. hasCell slots i (gridsOf slots c)) loads) m → BestOf (KeyWhere (takenAt i) loads) (passing t m)
     at-best none a = λ k x. a k (x .0, x .1, has-at (x .0) (x .1) (x .2), x .3)
-    at-best (some k) a = go (t k) refl
+    at-best (some k) a = go (t (k .code)) refl
       where
         c : Choice
         c = a .0 .0
+
+        passes : Key → Bool
+        passes x = t (x .code)
 
         -- no other choice of the cell is better
         most : (d : Choice) → IsChoice loads d → T (hasCell slots i (gridsOf slots d)) → better d c ≡ false
         most d l b = subst (λ y. beats (choiceKey d) y ≡ false) (sym (a .0 .3)) (a .1 (choiceKey d) (d, l, b, refl))
 
-        go : (u : Bool) → t k ≡ u → BestOf (KeyWhere (takenAt i) loads) (cond u (some k) none)
+        go : (u : Bool) → t (k .code) ≡ u → BestOf (KeyWhere (takenAt i) loads) (cond u (some k) none)
         go true e = (
           (
             c,
             a .0 .1,
             each (taken c) (eqb (cellOf c) i)
                 (each (keepsLimits slots c) (compared slots loads c)
-                (subst T (sym (test c (a .0 .1) ∙ ap t (a .0 .3) ∙ e)) tt)
+                (subst T (sym (test c (a .0 .1) ∙ ap passes (a .0 .3) ∙ e)) tt)
                 (compared-is slots loads c .1 (λ d l q. most d l (subst (λ g. T (hasCell slots i g)) (sym q) (a .0 .2)))))
                 (both (rangeAll slots (gridsOf slots c)) (eqb (cellOf c) i) (a .0 .2) .1),
             a .0 .3,
@@ -162,7 +134,7 @@ module _ (r n : ℕ) (slots : List Slot) (loads : List Settings) (h : Ready r n 
             let q : better c d ≡ false
             = compared-is slots loads d .0 (compared-at d (y .2)) c (a .0 .1) (same-cell i d c (y .1) (a .0 .1) b (a .0 .2)) in
             let s : choiceKey d ≡ choiceKey c = same-best (choiceKey d) (choiceKey c) q (most d (y .1) b) in
-            subst T (test d (y .1) ∙ ap t (s ∙ a .0 .3) ∙ e) (keeps-at d (y .2))
+            subst T (test d (y .1) ∙ ap passes (s ∙ a .0 .3) ∙ e) (keeps-at d (y .2))
 
     cell-passing : bestWhere (takenAt i) (choices loads) ≡ passing t (cellBest slots loads i)
     unfolding bestAt
@@ -180,12 +152,3 @@ module _ (r n : ℕ) (slots : List Slot) (loads : List Settings) (h : Ready r n 
       (λ c m a. index-below slots (gridsOf slots c) (within c m (in-range c m (both (keepsLimits slots c) (compared slots loads c) a .0))))
       (choices loads) (choices-are loads))
       ∙ ap (joinUpto (cellCount slots)) (fun-ext cell-passing)
-
--- what a cell holds is the key of a choice
-pub cell-coded : (slots : List Slot) (loads : List Settings) (i : ℕ) (k : Key) → cellBest slots loads i ≡ some k
-    → (c : Choice) × IsChoice loads c × (choiceKey c ≡ k)
-unfolding bestAt
-cell-coded slots loads i k e =
-    let x : BestOf (KeyWhere (λ c. hasCell slots i (gridsOf slots c)) loads) (some k)
-    = subst (BestOf (KeyWhere (λ c. hasCell slots i (gridsOf slots c)) loads)) e (where-best (λ c. hasCell slots i (gridsOf slots c)) loads) in
-    (x .0 .0, x .0 .1, x .0 .3)

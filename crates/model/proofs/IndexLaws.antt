@@ -128,13 +128,16 @@ pairs-refl (g ∷ gs) =
     (each (eqb (g .p) (g .p)) (sameℤ (g .q) (g .q)) (eqb-refl (g .p)) (int-refl (g .q)))
     (pairs-refl gs)
 
+pub pairs-same : (gs hs : List Power) → hs ≡ gs → T (sameLists samePair gs hs)
+pairs-same gs hs e = subst (λ z. T (sameLists samePair gs z)) (sym e) (pairs-refl gs)
+
 -- the lists are the same exactly when their cells are
 pub index-apart : (slots : List Slot) (gs hs : List Power) → WithinAll slots gs → WithinAll slots hs
     → sameLists samePair gs hs ≡ eqb (indexOf slots hs) (indexOf slots gs)
 index-apart slots gs hs v w =
     bool-same (sameLists samePair gs hs) (eqb (indexOf slots hs) (indexOf slots gs))
     (λ t. subst (λ z. T (eqb (indexOf slots z) (indexOf slots gs))) (pairs-eq gs hs t) (eqb-refl (indexOf slots gs)))
-    (λ t. subst (λ z. T (sameLists samePair gs z)) (sym (index-same slots hs gs w v (eqb→eq _ _ t))) (pairs-refl gs))
+    (λ t. pairs-same gs hs (index-same slots hs gs w v (eqb→eq _ _ t)))
 
 -- ---- the pairs of a choice are within the range, once a ≤ R
 

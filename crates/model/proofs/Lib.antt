@@ -13,6 +13,7 @@ pub mod AdmissionLaws
 pub mod Overload
 pub mod RecurrenceLaws
 pub mod PlanLaws
+pub mod BestLaws
 pub mod CellLaws
 pub mod IndexLaws
 pub mod TableLaws

@@ -6,14 +6,14 @@ use mathlib.Core.Bool.{Bool, true, false, cond}
 use mathlib.Core.Logic.{_⊎_, inl, inr, ⊎-elim}
 use mathlib.Core.List.{List, [], _∷_, map}
 use mathlib.Core.Option.{Option, none, some, Option·none-ne-some, Option·some-ne-none, Option·some-injective}
-use Prim.Native.Nat.{suc, _<_, _≤_}
+use Prim.Native.Nat.{suc, _≤_}
 use native.Mathlib.Omega.{arith}
 use lib.Dec.{T}
 use lib.ListN.{length}
 use Rattle.model.specs.Lists.{Mem, Every, keep}
 use Rattle.model.specs.Book.{Setting, Settings, Problem}
 use Rattle.model.specs.Choice.{Choice, IsChoice, choices, withEach, worthOf}
-use Rattle.model.specs.Grid.{Slot, slotsOf, keepsLimits, Admitted, admitted, better, betterOf, best, bestAdmitted, plan, NoBetter, IsPlan}
+use Rattle.model.specs.Grid.{slotsOf, keepsLimits, Admitted, admitted, better, betterOf, best, bestAdmitted, plan, NoBetter, IsPlan}
 use Rattle.model.specs.Cells.{Key, beats, betterKey, join, bestKey, choiceKey}
 use Rattle.model.proofs.ListLaws.{every-imp, every-keep, every-kept, every-append, every-left, every-right}
 use Rattle.model.proofs.KeyLaws.{Versus, versus, more, tie-less, less, tie-more, not-trans, not-both}
@@ -214,11 +214,15 @@ pub plan-none : (b : Problem) → plan b ≡ none → (c : Choice) → IsChoice 
 unfolding plan bestAdmitted
 plan-none b e c m h = kept-none (admitted (slotsOf b)) (b .loads) e c m (admitted-is (slotsOf b) c .1 h)
 
+-- a choice of the book whose true sums keep every limit is admitted
+pub keeps-admissible : (b : Problem) (c : Choice) → IsChoice (b .loads) c → T (keepsLimits (slotsOf b) c) → Admitted (slotsOf b) c
+keeps-admissible b c m k =
+    admitted-is (slotsOf b) c .0
+    (keeps-admitted (b .ratio) (length (b .loads)) (slotsOf b) (slots-for b) c (omega (arith, chosen-length (b .loads) c m)) k)
+
 -- THE WORTH: a choice whose true sums keep every limit is worth no more than the plan
 pub plan-worth : (b : Problem) (d : Choice) → plan b ≡ some d
     → (c : Choice) → IsChoice (b .loads) c → T (keepsLimits (slotsOf b) c) → worthOf c ≤ worthOf d
 plan-worth b d e c m k =
     ⊎-elim (λ l. omega arith) (λ q. omega (arith, q .0))
-    (plan-is b d e .greatest c m
-    (admitted-is (slotsOf b) c .0
-    (keeps-admitted (b .ratio) (length (b .loads)) (slotsOf b) (slots-for b) c (omega (arith, chosen-length (b .loads) c m)) k)))
+    (plan-is b d e .greatest c m (keeps-admissible b c m k))

@@ -3,13 +3,12 @@
 -- Assumes nothing.
 use mathlib.Core.Path.{_≡_, refl, sym, ap, _∙_, subst}
 use mathlib.Core.Bool.{Bool, true, false}
-use mathlib.Core.Logic.{_⊎_, inl, inr, ⊎-elim, _↔_}
+use mathlib.Core.Logic.{_⊎_, inl, inr, _↔_}
 use mathlib.Core.List.{List, [], _∷_}
 use mathlib.Core.Option.{Option, none, some}
 use Prim.Native.Nat.{ℕ, _<_, _≤_}
 use native.Mathlib.Omega.{arith}
 use lib.Dec.{T, ltb}
-use lib.ListN.{length}
 use borrow.Author.Tests.{le-ltb, ltb-false}
 use Rattle.model.specs.declared.Answer.{Answer}
 use Rattle.model.specs.declared.Refusal.{Refusal}
@@ -30,14 +29,21 @@ use Rattle.model.specs.Demand.{Past12, SomeAdmitted, NumberIs, Answered}
 use Rattle.model.specs.Answers.{Output, answerOf}
 use Rattle.model.proofs.IntegerLaws.{split}
 use Rattle.model.proofs.RefusalLaws.{number-some, NoneApplies, first-passed, first-none, first-most, RulesMost, NumberMost}
-use Rattle.model.proofs.AdmissionLaws.{slots-for, keeps-admitted, admitted-is}
-use Rattle.model.proofs.PlanLaws.{chosen-length, plan-is, plan-none}
+use Rattle.model.proofs.PlanLaws.{plan-is, plan-none, keeps-admissible}
 use Rattle.model.proofs.QuickLaws.{firsts-chosen, quick-short, quick-over, quick-given}
 use Rattle.model.proofs.ValidLaws.{book-valid, book-most}
 
 -- a number that refusals 1 to 12 do not have
-abbrev Past : ℕ → Type 0
+abbrev pub Past : ℕ → Type 0
 Past n = (n ≡ 0) ⊎ (12 < n)
+
+-- a sheet's number, or 17
+abbrev pub Given : ℕ → Type 0
+Given n = (n ≡ 0) ⊎ (n ≡ 17)
+
+pub given-past : {n : ℕ} → Given n → Past n
+given-past (inl e) = inl e
+given-past (inr e) = inr (omega (arith, e))
 
 not-past : {A : Type 0} (r : Refusal) → numberOf r ≤ 12 → Past (numberOf r) → A
 not-past r h (inl e) = absurd (number-some r e)
@@ -53,29 +59,24 @@ without-plan b e a = plan-none b e (a .choice) (a .of-book) (a .admissible)
 
 -- a choice that keeps the limits is admitted
 keeps-some : (b : Problem) (c : Choice) → IsChoice (b .loads) c → T (keepsLimits (slotsOf b) c) → SomeAdmitted b
-keeps-some b c m k =
-    record {
-      choice = c;
-      of-book = m;
-      admissible = admitted-is (slotsOf b) c .0 (keeps-admitted (b .ratio) (length (b .loads)) (slotsOf b) (slots-for b) c (omega (arith, chosen-length (b .loads) c m)) k);
-    }
+keeps-some b c m k = record { choice = c; of-book = m; admissible = keeps-admissible b c m k }
 
 -- ---- the number of a planner with the plan p
 
 module _ (p : Problem → Option Choice) where
   module _ (book : List ℕ) (words room : ℕ) where
     -- its result
-    abbrev pub resultBy : Result Output
-    resultBy = andThen (fittingBook book words room) (planSheet p)
+    abbrev pub resultWith : Result Output
+    resultWith = andThen (fittingBook book words room) (planSheet p)
 
     size-rules-most : (b : Problem) → RulesMost 12 (sizeRules b words room)
     unfolding sizeRules
     size-rules-most b = (omega arith, (omega arith, (omega arith, tt)))
 
     -- what it answers once none of 1 to 12 applies
-    pub result-by : (b : Problem) → Past12 book words room b → resultBy ≡ planned b (p b)
+    pub result-with : (b : Problem) → Past12 book words room b → resultWith ≡ planned b (p b)
     unfolding fittingBook planSheet sizeRules
-    result-by b h =
+    result-with b h =
         ap (λ x. andThen (andThen x (fitting words room)) (planSheet p)) (h .reads)
         ∙ ap (λ f. andThen (checked 0 f (done b)) (planSheet p))
         (first-none (sizeRules b words room)
@@ -84,9 +85,9 @@ module _ (p : Problem → Option Choice) where
         (first-none ((ltb (b .budget) (trials b) ⇒ BudgetExceeded) ∷ []) (le-ltb (b .budget) (trials b) (h .enough), tt))
 
     -- and a number that they do not have is given only there
-    pub only-by : Past (answerOf resultBy .number) → (b : Problem) × Past12 book words room b
+    pub only-with : Past (answerOf resultWith .number) → (b : Problem) × Past12 book words room b
     unfolding fittingBook planSheet sizeRules first
-    only-by n = at-book (readBook book) refl (book-most book) n
+    only-with n = at-book (readBook book) refl (book-most book) n
       where
         at-budget : (b : Problem) → readBook book ≡ done b → first (sizeRules b words room) ≡ Passed → (t : Bool) → ltb (b .budget) (trials b) ≡ t
             → Past (answerOf (checked 0 (first ((t ⇒ BudgetExceeded) ∷ [])) (planned b (p b))) .number)
@@ -117,9 +118,9 @@ module _ (p : Problem → Option Choice) where
   -- WHEN A SHEET IS GIVEN, AND WHEN 17: where `SomePlan` says that there is a plan, and `PastAll` that no refusal before 17 applies
   module _ (SomePlan : Problem → Type 0) (with : (b : Problem) (c : Choice) → p b ≡ some c → SomePlan b) (without : (b : Problem) → p b ≡ none → SomePlan b → ⊥)
       (PastAll : Problem → Type 0) (number : ℕ) (number-is : (b : Problem) → PastAll b → number ≡ answerOf (planned b (p b)) .number)
-      (only : (number ≡ 0) ⊎ (number ≡ 17) → (b : Problem) × PastAll b) where
-    pub number-by : NumberIs PastAll SomePlan number
-    number-by =
+      (only : Given number → (b : Problem) × PastAll b) where
+    pub number-with : NumberIs PastAll SomePlan number
+    number-with =
         record {
           sheet = λ b h a. number-is b h ∙ given b a (p b) refl;
           sheet-only = λ e. let x = only (inl e) in (x .0, x .1, found (x .0) (p (x .0)) refl (sym (number-is (x .0) (x .1)) ∙ e));
@@ -148,17 +149,17 @@ module _ (p : Problem → Option Choice) where
 module _ (book : List ℕ) (words room : ℕ) where
   pub past-result : (b : Problem) → Past12 book words room b → plannerResult book words room ≡ planned b (plan b)
   unfolding plannerResult
-  past-result = result-by plan book words room
+  past-result = result-with plan book words room
 
   pub past-only : Past (answerOf (plannerResult book words room) .number) → (b : Problem) × Past12 book words room b
   unfolding plannerResult
-  past-only = only-by plan book words room
+  past-only = only-with plan book words room
 
   answered : Answered book words room (answerOf (plannerResult book words room) .number)
   answered =
-      number-by plan SomeAdmitted with-plan without-plan (Past12 book words room) (answerOf (plannerResult book words room) .number)
+      number-with plan SomeAdmitted with-plan without-plan (Past12 book words room) (answerOf (plannerResult book words room) .number)
       (λ b h. ap (λ x. answerOf x .number) (past-result b h))
-      (λ n. past-only (⊎-elim (λ e. inl e) (λ e. inr (omega (arith, e))) n))
+      (λ n. past-only (given-past n))
 
 -- the same of an answer that is the planner's
 pub answered-as : (book : List ℕ) (words room : ℕ) (a : Answer) → a ≡ answerOf (plannerResult book words room) → Answered book words room (a .number)

@@ -1,19 +1,21 @@
--- When the strict planner gives a sheet, and when refusal 17 (document 02, M-109), in both directions; what holds of a sheet that it gave; and that no choice has
--- the margin where it gives 17.
+-- When the strict planner gives a sheet, and when refusal 17 (document 02, M-109), in both directions; what holds of a sheet that it gave; that no choice has
+-- the margin where it gives 17; and that it gives the plain planner's sheet where that keeps every limit.
 -- Assumes nothing.
 use mathlib.Core.Path.{_≡_, refl, sym, ap, _∙_, subst}
 use mathlib.Core.Logic.{_⊎_, inl, inr, ⊎-elim}
-use mathlib.Core.List.{List, [], _∷_, _++_}
+use mathlib.Core.List.{List, [], _∷_}
 use mathlib.Core.Option.{Option, none, some}
 use Prim.Native.Nat.{ℕ, _≤_}
 use native.Mathlib.Decide.{ℕ-discrete}
 use native.Mathlib.Omega.{arith}
-use lib.Dec.{eqb}
+use lib.Dec.{ltb}
 use lib.ListN.{length, drop}
 use borrow.Author.Tests.{eq-eqb, ne-eqb}
 use Rattle.model.specs.declared.Answer.{Answer}
 use Rattle.model.specs.declared.Refusal.{Refusal}
-use Rattle.model.specs.declared.Refusal.the-variants.{TooCoarse}
+use Rattle.model.specs.declared.Refusal.the-variants.{BudgetExceeded, TooCoarse}
+use Rattle.model.specs.declared.Finding.{Finding}
+use Rattle.model.specs.declared.Finding.the-variants.{Passed, Refused}
 use Rattle.model.specs.Refusals.{Result, refused, done, _⇒_, first, checked, andThen}
 use Rattle.model.specs.Book.{Problem, readBook}
 use Rattle.model.specs.Choice.{Choice, IsChoice, worthOf}
@@ -21,16 +23,15 @@ use Rattle.model.specs.Grid.{plan}
 use Rattle.model.specs.Trials.{trials}
 use Rattle.model.specs.Sheet.{sheetOf, sheetBytes}
 use Rattle.model.specs.Answers.{Output, answerOf, bufferAfter}
-use Rattle.model.specs.Calls.{fitting, fittingBook, planned, planSheet, plannerResult}
+use Rattle.model.specs.Calls.{sizeRules, fitting, fittingBook, planned, planSheet, plannerResult}
 use Rattle.model.specs.Demand.{Past12}
-use Rattle.model.specs.Strict.{strictPlan, IsStrictPlan, fine, strictBook, strictResult, StrictPast, SomeKeeping, StrictAnswered, HasMargin, NoMargin, NeverAbove}
-use Rattle.model.specs.Valid.{ValidBook}
+use Rattle.model.specs.Strict.{strictPlan, IsStrictPlan, fine, strictBook, strictResult, StrictPast, SomeKeeping, StrictAnswered, HasMargin, NoMargin, NeverAbove, SameSheet}
 use Rattle.model.proofs.RefusalLaws.{refused-done, done-same}
 use Rattle.model.proofs.ValidLaws.{book-valid}
 use Rattle.model.proofs.MustRunLaws.{book-runs}
-use Rattle.model.proofs.SheetGivenLaws.{resultBy, result-by, only-by, number-by, past-result}
+use Rattle.model.proofs.SheetGivenLaws.{Given, given-past, resultWith, result-with, only-with, number-with, past-result}
 use Rattle.model.proofs.DemandLaws.{stands-on}
-use Rattle.model.proofs.StrictLaws.{strict-is, strict-none, margin-some, margin-worth, plain-too}
+use Rattle.model.proofs.StrictLaws.{strict-is, strict-none, margin-some, margin-worth, plain-too, plain-kept}
 
 -- ---- the number
 
@@ -44,7 +45,7 @@ module _ (book : List ℕ) (words room : ℕ) where
   at-book x e = ap resultFor e
 
   -- it is that of a planner with the strict plan, but for refusal 20
-  at-fine : (b : Problem) → readBook book ≡ done b → (b .fineness ≡ 1 → ⊥) → strictResult book words room ≡ resultBy strictPlan book words room
+  at-fine : (b : Problem) → readBook book ≡ done b → (b .fineness ≡ 1 → ⊥) → strictResult book words room ≡ resultWith strictPlan book words room
   unfolding fittingBook first
   at-fine b e n =
       at-book (done b) e
@@ -57,35 +58,35 @@ module _ (book : List ℕ) (words room : ℕ) where
       at-book (done b) e
       ∙ ap (λ t. andThen (andThen (checked 0 (first ((t ⇒ TooCoarse) ∷ [])) (done b)) (fitting words room)) (planSheet strictPlan)) (eq-eqb (b .fineness) 1 q)
 
-  at-refused : (r : Refusal) (line : ℕ) → readBook book ≡ refused r line → strictResult book words room ≡ resultBy strictPlan book words room
+  at-refused : (r : Refusal) (line : ℕ) → readBook book ≡ refused r line → strictResult book words room ≡ resultWith strictPlan book words room
   unfolding fittingBook
   at-refused r line e = at-book (refused r line) e ∙ sym (ap (λ x. andThen (andThen x (fitting words room)) (planSheet strictPlan)) e)
 
   -- what it answers once no refusal before 17 applies
   strict-result : (b : Problem) → StrictPast book words room b → strictResult book words room ≡ planned b (strictPlan b)
-  strict-result b h = at-fine b (h .past .reads) (h .fine-enough) ∙ result-by strictPlan book words room b (h .past)
+  strict-result b h = at-fine b (h .past .reads) (h .fine-enough) ∙ result-with strictPlan book words room b (h .past)
 
   -- and a sheet or 17 is given only there
-  abbrev Given : Result Output → Type 0
-  Given x = (answerOf x .number ≡ 0) ⊎ (answerOf x .number ≡ 17)
+  abbrev GivenBy : Result Output → Type 0
+  GivenBy x = Given (answerOf x .number)
 
-  only-fine : Given (resultBy strictPlan book words room) → (b : Problem) × Past12 book words room b
-  only-fine n = only-by strictPlan book words room (⊎-elim (λ e. inl e) (λ e. inr (omega (arith, e))) n)
+  only-fine : GivenBy (resultWith strictPlan book words room) → (b : Problem) × Past12 book words room b
+  only-fine n = only-with strictPlan book words room (given-past n)
 
-  strict-only : Given (strictResult book words room) → (b : Problem) × StrictPast book words room b
+  strict-only : GivenBy (strictResult book words room) → (b : Problem) × StrictPast book words room b
   strict-only n = go (readBook book) refl
     where
       at : (b : Problem) → readBook book ≡ done b → Dec (b .fineness ≡ 1) → (b : Problem) × StrictPast book words room b
       at b e (yes q) =
-          absurd (⊎-elim (λ z. omega (arith, z)) (λ z. omega (arith, z)) (subst Given (at-coarse b e q) n))
+          absurd (⊎-elim (λ z. omega (arith, z)) (λ z. omega (arith, z)) (subst GivenBy (at-coarse b e q) n))
       at b e (no q) =
-          let x : (b : Problem) × Past12 book words room b = only-fine (subst Given (at-fine b e q) n) in
+          let x : (b : Problem) × Past12 book words room b = only-fine (subst GivenBy (at-fine b e q) n) in
           let same : b ≡ x .0 = done-same b (x .0) (sym e ∙ x .1 .reads) in
           (x .0, record { past = x .1; fine-enough = λ z. q (ap (λ (y : Problem). y .fineness) same ∙ z) })
 
       go : (x : Result Problem) → readBook book ≡ x → (b : Problem) × StrictPast book words room b
       go (refused r line) e =
-          let x : (b : Problem) × Past12 book words room b = only-fine (subst Given (at-refused r line e) n) in
+          let x : (b : Problem) × Past12 book words room b = only-fine (subst GivenBy (at-refused r line e) n) in
           absurd (refused-done r line (x .0) (sym e ∙ x .1 .reads))
       go (done b) e = at b e (ℕ-discrete (b .fineness) 1)
 
@@ -94,7 +95,7 @@ module _ (book : List ℕ) (words room : ℕ) where
 
   strict-answered : StrictAnswered book words room (answerOf (strictResult book words room) .number)
   strict-answered =
-      number-by strictPlan SomeKeeping
+      number-with strictPlan SomeKeeping
       (λ b c e. let p = strict-is b c e in record { choice = c; compared = p .compared; keeps = p .keeps })
       strict-none (StrictPast book words room) (answerOf (strictResult book words room) .number) number-is strict-only
 
@@ -154,3 +155,24 @@ never-above book words before e =
             too .2,
           );
         }
+
+-- ---- the same sheet
+
+-- two planners whose plans of a book are the same have the same result for it
+same-result : (p q : Problem → Option Choice) (book : List ℕ) (words room : ℕ) (b : Problem) → readBook book ≡ done b → p b ≡ q b
+    → resultWith p book words room ≡ resultWith q book words room
+unfolding fittingBook planSheet
+same-result p q book words room b e s =
+    ap (result p) e ∙ go (first (sizeRules b words room)) ∙ sym (ap (result q) e)
+  where
+    result : (Problem → Option Choice) → Result Problem → Result Output
+    result f x = andThen (andThen x (fitting words room)) (planSheet f)
+
+    go : (f : Finding) → andThen (checked 0 f (done b)) (planSheet p) ≡ andThen (checked 0 f (done b)) (planSheet q)
+    go (Refused r) = refl
+    go Passed = ap (λ m. checked 0 (first ((ltb (b .budget) (trials b) ⇒ BudgetExceeded) ∷ [])) (planned b m)) s
+
+pub same-sheet : SameSheet
+unfolding plannerResult
+same-sheet book words room b e n c q k =
+    at-fine book words room b e n ∙ same-result strictPlan plan book words room b e (plain-kept b (book-valid book b e) c q k ∙ sym q)

@@ -1,46 +1,50 @@
--- What the strict planner promises (document 02, M-109): its plan keeps every limit and is the best of the compared choices that do; it is worth at least as much
--- as every choice with the margin; the plain planner's is worth at least that. Then the same of the call.
+-- What the strict planner promises (document 02, M-109): its plan keeps every limit and is the best of the compared choices that do, of which there is one for each
+-- list of grid pairs; it is worth at least as much as every choice with the margin; the plain planner's is worth at least that, and where it keeps the limits it is
+-- the same.
 -- Assumes nothing.
 use mathlib.Core.Path.{_≡_, refl, sym, ap, _∙_, subst}
-use mathlib.Core.Bool.{Bool, true, false, _&&_}
-use mathlib.Core.Logic.{_⊎_, inl, inr, ⊎-elim}
-use mathlib.Core.List.{List, [], _∷_, _++_}
+use mathlib.Core.Bool.{Bool}
+use mathlib.Core.Logic.{⊎-elim, _↔_}
 use mathlib.Core.Option.{Option, none, some}
-use Prim.Native.Nat.{ℕ, _+_, _*_, _-_, _<_, _≤_}
-use native.Mathlib.Nat.{le-trans, le-max-left, mul-le-mul-right}
+use Prim.Native.Nat.{_+_, _*_, _-_, _<_, _≤_}
+use native.Mathlib.Nat.{le-trans, le-antisymm, le-max-left, mul-le-mul-right}
 use native.Mathlib.Omega.{arith}
 use lib.Dec as Dec
-use lib.IntN.{ℤ, pos, natAbs, _+ℤ_}
-use lib.ListN.{length, drop}
-use Rattle.model.specs.Lists.{keep, sameLists}
-use Rattle.model.specs.Book.{Problem, readBook}
+use lib.IntN.{pos, natAbs, _+ℤ_}
+use lib.ListN.{length}
+use Rattle.model.specs.Lists.{keep}
+use Rattle.model.specs.Book.{Problem}
 use Rattle.model.specs.Choice.{Choice, IsChoice, choices, worthOf, sumIn}
-use Rattle.model.specs.Grid.{Slot, slotsOf, keepsLimits, gridIn, gridsOf, spreadOf, times, better, best, NoBetter, plan}
-use Rattle.model.specs.Trials.{samePair}
-use Rattle.model.specs.Demand.{S, T, KeepsLimits}
-use Rattle.model.specs.Strict.{samePairs, compared, bestKeeping, strictPlan, Compared, IsStrictPlan, SomeKeeping, HasMargin}
+use Rattle.model.specs.Grid.{Slot, slotsOf, keepsLimits, gridIn, gridsOf, spreadOf, times, Admitted, best, NoBetter, plan, IsPlan}
+use Rattle.model.specs.Demand.{S, KeepsLimits}
+use Rattle.model.specs.Strict.{samePairs, compared, comparedKeeping, bestKeeping, strictPlan, Compared, OneForEach, IsStrictPlan, SomeKeeping, HasMargin}
+use Rattle.model.specs.Valid.{ValidBook}
+use Rattle.model.specs.Cells.{admitsAll}
 use Rattle.model.proofs.ListLaws.{both, each, map-each}
-use Rattle.model.proofs.AdmissionLaws.{slots-for, keeps-admitted, admitted-is, Rounded, rounded-choice}
-use Rattle.model.proofs.PlanLaws.{chosen-length, kept-sound, kept-best, kept-none, no-better, not-better, plan-none, plan-worth}
-use Rattle.model.proofs.IndexLaws.{pairs-eq, pairs-refl}
+use Rattle.model.proofs.AdmissionLaws.{admitted-is, Rounded, rounded-choice}
+use Rattle.model.proofs.RecurrenceLaws.{admitted-grids}
+use Rattle.model.proofs.PlanLaws.{chosen-length, kept-sound, kept-best, kept-none, no-better, not-better, plan-is, plan-none, keeps-admissible, plan-worth}
+use Rattle.model.proofs.CodeLaws.{code-same}
+use Rattle.model.proofs.ValidLaws.{book-valid}
+use Rattle.model.proofs.IndexLaws.{pairs-eq, pairs-refl, pairs-same}
 use Rattle.model.proofs.ComparedLaws.{compared-is}
 use Rattle.model.proofs.DemandLaws.{slotIn, slots-each, keeps-is, abs-near, spread-small, as-squares}
 use Rattle.model.proofs.Overload as Overload
 
 -- ---- the strict plan
 
--- the test of a compared choice, as the property has it
-better-than-pairs : (b : Problem) (c : Choice) → IsChoice (b .loads) c → Dec.T (compared (slotsOf b) (b .loads) c) → Compared b c
-better-than-pairs b c m t = record { choice = m; greatest = λ other l e. no-better other c (compared-is (slotsOf b) (b .loads) c .0 t other l e) }
-
-pairs-compared : (b : Problem) (c : Choice) → Compared b c → Dec.T (compared (slotsOf b) (b .loads) c)
-pairs-compared b c h = compared-is (slotsOf b) (b .loads) c .1 (λ d l e. not-better d c (h .greatest d l e))
+-- the test of a compared choice is that property
+compared-tested : (b : Problem) (c : Choice) → IsChoice (b .loads) c → Dec.T (compared (slotsOf b) (b .loads) c) ↔ Compared b c
+compared-tested b c m = (
+  λ t. record { choice = m; greatest = λ other l e. no-better other c (compared-is (slotsOf b) (b .loads) c .0 t other l e) },
+  λ h. compared-is (slotsOf b) (b .loads) c .1 (λ d l e. not-better d c (h .greatest d l e)),
+)
 
 abbrev returnable : Problem → Choice → Bool
-returnable b c = keepsLimits (slotsOf b) c && compared (slotsOf b) (b .loads) c
+returnable b = comparedKeeping (slotsOf b) (b .loads)
 
 of-keeping : (b : Problem) (c : Choice) → Compared b c → KeepsLimits b c → Dec.T (returnable b c)
-of-keeping b c h k = each (keepsLimits (slotsOf b) c) (compared (slotsOf b) (b .loads) c) (keeps-is b c .1 k) (pairs-compared b c h)
+of-keeping b c h k = each (keepsLimits (slotsOf b) c) (compared (slotsOf b) (b .loads) c) (keeps-is b c .1 k) (compared-tested b c (h .choice) .1 h)
 
 -- THE STRICT PLAN, in the request's words
 pub strict-is : (b : Problem) (c : Choice) → strictPlan b ≡ some c → IsStrictPlan b c
@@ -50,7 +54,7 @@ strict-is b c e =
     let parts : Dec.T (keepsLimits (slotsOf b) c) × Dec.T (compared (slotsOf b) (b .loads) c)
     = both (keepsLimits (slotsOf b) c) (compared (slotsOf b) (b .loads) c) (sound .1) in
     record {
-      compared = better-than-pairs b c (sound .0) (parts .1);
+      compared = compared-tested b c (sound .0) .0 (parts .1);
       keeps = keeps-is b c .0 (parts .0);
       greatest = λ other h k. no-better other c (kept-best (returnable b) (b .loads) c e other (h .choice) (of-keeping b other h k));
     }
@@ -60,7 +64,14 @@ pub strict-none : (b : Problem) → strictPlan b ≡ none → SomeKeeping b → 
 unfolding strictPlan bestKeeping
 strict-none b e h = kept-none (returnable b) (b .loads) e (h .choice) (h .compared .choice) (of-keeping b (h .choice) (h .compared) (h .keeps))
 
--- ---- the margin
+-- ---- one for each list of grid pairs
+
+-- two choices of a book of which none is better are one
+neither-better : (b : Problem) → ValidBook b → (c d : Choice) → IsChoice (b .loads) c → IsChoice (b .loads) d → NoBetter c d → NoBetter d c → c ≡ d
+neither-better b good c d m l h k =
+    code-same (b .loads) c d (good .loads .labels) m l
+    (⊎-elim (λ x. absurd (⊎-elim (λ y. omega arith) (λ y. omega (arith, y .0)) k))
+    (λ x. ⊎-elim (λ y. absurd (omega (arith, x .0))) (λ y. le-antisymm (y .1) (x .1)) k) h)
 
 -- each choice has a compared one with its pairs, and that is worth at least as much
 record SamePairs (b : Problem) (c : Choice) : Type 0 where
@@ -86,12 +97,24 @@ with-pairs b c m = go (best (keep same (choices (b .loads)))) refl
             choice = sound .0;
             greatest = λ other l p.
                 no-better other d
-                (kept-best same (b .loads) d e other l
-                (subst (λ g. Dec.T (sameLists samePair (gridsOf (slotsOf b) c) g)) (sym (p ∙ sym q)) (pairs-refl (gridsOf (slotsOf b) c))));
+                (kept-best same (b .loads) d e other l (pairs-same (gridsOf (slotsOf b) c) (gridsOf (slotsOf b) other) (p ∙ sym q)));
           };
           pairs = sym q;
           worth = ⊎-elim (λ l. omega arith) (λ t. omega (arith, t .0)) (no-better c d (kept-best same (b .loads) d e c m (pairs-refl (gridsOf (slotsOf b) c))));
         }
+
+pub one-for-each : OneForEach
+one-for-each book b e c m =
+    let x : SamePairs b c = with-pairs b c m in (
+      x .choice,
+      x .compared,
+      x .pairs,
+      λ other h q.
+          neither-better b (book-valid book b e) other (x .choice) (h .choice) (x .compared .choice)
+          (x .compared .greatest other (h .choice) (q ∙ sym (x .pairs))) (h .greatest (x .choice) (x .compared .choice) (x .pairs ∙ sym q)),
+    )
+
+-- ---- the margin
 
 -- the true sums of two choices with one grid pair lie at most e apart
 record Apart (s : Slot) (c d : Choice) : Type 0 where
@@ -144,6 +167,12 @@ module _ (b : Problem) (two : 2 ≤ b .fineness) (c : Choice) (m : IsChoice (b .
 
 -- ---- beside the plain plan
 
+-- a choice with the pairs of an admitted one is admitted
+same-admitted : (b : Problem) (c d : Choice) → gridsOf (slotsOf b) d ≡ gridsOf (slotsOf b) c → Admitted (slotsOf b) c → Admitted (slotsOf b) d
+same-admitted b c d q h =
+    admitted-is (slotsOf b) d .0
+    (subst Dec.T (admitted-grids (slotsOf b) c ∙ ap (admitsAll (slotsOf b)) (sym q) ∙ sym (admitted-grids (slotsOf b) d)) (admitted-is (slotsOf b) c .1 h))
+
 -- the plain planner has a plan too, of at least that worth
 pub plain-too : (b : Problem) (c : Choice) → strictPlan b ≡ some c → (d : Choice) × (plan b ≡ some d) × (worthOf c ≤ worthOf d)
 plain-too b c e = go (plan b) refl
@@ -155,7 +184,24 @@ plain-too b c e = go (plan b) refl
     keeps = keeps-is b c .1 (strict-is b c e .keeps)
 
     go : (x : Option Choice) → plan b ≡ x → (d : Choice) × (plan b ≡ some d) × (worthOf c ≤ worthOf d)
-    go none q =
-        absurd (plan-none b q c m
-        (admitted-is (slotsOf b) c .0 (keeps-admitted (b .ratio) (length (b .loads)) (slotsOf b) (slots-for b) c (omega (arith, chosen-length (b .loads) c m)) keeps)))
+    go none q = absurd (plan-none b q c m (keeps-admissible b c m keeps))
     go (some d) q = (d, q, plan-worth b d q c m keeps)
+
+-- a plan of the plain planner that keeps every limit is the strict plan: choices with its pairs are admitted as it is, and so is every choice that keeps the limits
+pub plain-kept : (b : Problem) → ValidBook b → (c : Choice) → plan b ≡ some c → KeepsLimits b c → strictPlan b ≡ some c
+plain-kept b good c e k = go (strictPlan b) refl
+  where
+    is : IsPlan b c
+    is = plan-is b c e
+
+    mine : Compared b c
+    mine = record { choice = is .choice; greatest = λ other m q. is .greatest other m (same-admitted b c other q (is .admissible)) }
+
+    go : (x : Option Choice) → strictPlan b ≡ x → strictPlan b ≡ some c
+    go none q = absurd (strict-none b q (record { choice = c; compared = mine; keeps = k }))
+    go (some d) q =
+        let s : IsStrictPlan b d = strict-is b d q in
+        q
+        ∙ ap some
+        (neither-better b good d c (s .compared .choice) (is .choice)
+        (is .greatest d (s .compared .choice) (keeps-admissible b d (s .compared .choice) (keeps-is b d .1 (s .keeps)))) (s .greatest c mine k))

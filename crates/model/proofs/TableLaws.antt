@@ -207,7 +207,7 @@ range-admits r n (s ∷ slots) z (x ∷ g) t =
     (le→leb (x .p) (gridTop s) (admits-range s x (z .0 .0) (both (admits s x) (admitsAll slots g) t .0)))
     (range-admits r n slots (z .1) g (both (admits s x) (admitsAll slots g) t .1))
 
--- a test that does not ask for the key
+-- a test that does not ask for the code
 passing-cond : (t : Bool) (x : Option Key) → cond t x none ≡ passing (λ k. t) x
 passing-cond true none = refl
 passing-cond false none = refl

@@ -1,4 +1,5 @@
--- The planner's result, and which words it may change (document 01, "Trials and the work area", "Refusals by number" 9 to 12; document 02, M-104, M-105 and M-108).
+-- The planner's result, and which words it may change (document 01, "Trials and the work area", "Refusals by number" 9 to 12; document 02, M-104, M-105 and M-108;
+-- what M-109's planner shares with it).
 use Prim.Native.Nat.{ℕ}
 use mathlib.Core.List.{List, [], _∷_}
 use mathlib.Core.Option.{Option, none, some}
@@ -30,7 +31,8 @@ unfoldable pub fittingBook : List ℕ → ℕ → ℕ → Result Problem
 fittingBook bytes words room = andThen (readBook bytes) (fitting words room)
 
 -- 17 (document 02, M-104): "when no choice is admitted", as "All standing may now break a limit"; document 01's "The choice of all standing always is"
--- went with that; M-105: when none is admitted of "the choices that run every such load", as a book has no others. "numbers from 14 on carry line 0".
+-- went with that; M-105: when none is admitted of "the choices that run every such load", as a book has no others; M-109: when "none of the compared choices
+-- fits". "numbers from 14 on carry line 0".
 -- Else the plan's sheet: "The result carries the planner's count, and it equals this number"
 abbrev pub planned : Problem → Option Choice → Result Output
 planned b none = refused NoPlan 0

@@ -41,10 +41,10 @@ abbrev pub bestKey : List Key → Option Key
 bestKey [] = none
 bestKey (x ∷ xs) = join (some x) (bestKey xs)
 
--- a key that passes a test, or none
-abbrev pub passing : (Key → Bool) → Option Key → Option Key
+-- a key whose code passes a test, or none
+abbrev pub passing : (ℕ → Bool) → Option Key → Option Key
 passing t none = none
-passing t (some x) = cond (t x) (some x) none
+passing t (some x) = cond (t (x .code)) (some x) none
 
 -- the best of f 0 to f (n - 1)
 abbrev pub joinUpto : ℕ → (ℕ → Option Key) → Option Key

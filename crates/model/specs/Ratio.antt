@@ -1,6 +1,6 @@
 -- Poorer power factors (document 02, M-108). A book has a ratio r (Book, `ratioIn`). Refusals 6 and 7 go by it (Book, `headerRules`, `someExceeds`) and the number
--- of cells (Trials, `widthOf`), and by that 9, 10, the needed words and the layout of the table (Index). Grid, admission, plan and trials (Grid, Trials) and the
--- bounds of demand 3 and M-106 (Demand) do not. Here is what that means, whichever the ratio.
+-- of cells (Trials, `widthOf`), and by that 9, 10, the needed words and the layout of the table (Index). Grid, admission, plan and trials (Grid, Trials), the
+-- strict plan (Strict) and the bounds of demand 3 and M-106 (Demand) do not. Here is what that means, whichever the ratio.
 use Prim.Native.Nat.{ℕ, _≤_}
 use mathlib.Core.Path.{_≡_}
 use mathlib.Core.List.{List}

@@ -3,7 +3,7 @@ use Prim.Native.Nat.{ℕ, _*_, _-_, _<_, _≤_}
 use mathlib.Core.Path.{_≡_}
 use mathlib.Core.Bool.{Bool, not, _&&_}
 use mathlib.Core.List.{List, [], _∷_}
-use mathlib.Core.Option.{Option}
+use mathlib.Core.Option.{Option, some}
 use lib.Dec.{eqb}
 use Rattle.model.specs.declared.Refusal.the-variants.{TooCoarse}
 use Rattle.model.specs.Lists.{keep, all, sameLists}
@@ -12,7 +12,7 @@ use Rattle.model.specs.Refusals.{Result, done, _⇒_, first, checked, an
 use Rattle.model.specs.Book.{Settings, Problem, readBook}
 use Rattle.model.specs.Choice.{Choice, IsChoice, choices, worthOf, square}
 use Rattle.model.specs.MustRun.{RunsRequired}
-use Rattle.model.specs.Grid.{Slot, slotsOf, keepsLimits, gridsOf, better, best, NoBetter}
+use Rattle.model.specs.Grid.{Slot, slotsOf, keepsLimits, gridsOf, better, best, NoBetter, plan}
 use Rattle.model.specs.Trials.{samePair}
 use Rattle.model.specs.Answers.{Output}
 use Rattle.model.specs.Calls.{fitting, planSheet, plannerResult, freeFor}
@@ -29,9 +29,13 @@ samePairs slots c d = sameLists samePair (gridsOf slots c) (gridsOf slots d)
 abbrev pub compared : List Slot → List Settings → Choice → Bool
 compared slots loads c = all (λ d. not (samePairs slots c d && better d c)) (choices loads)
 
--- the best of the compared choices of some loads that keep the limits
+-- a compared choice "that has P² + Q² ≤ S² in every slot"
+abbrev pub comparedKeeping : List Slot → List Settings → Choice → Bool
+comparedKeeping slots loads c = keepsLimits slots c && compared slots loads c
+
+-- the best of these
 unfoldable pub bestKeeping : List Slot → List Settings → Option Choice
-bestKeeping slots loads = best (keep (λ c. keepsLimits slots c && compared slots loads c) (choices loads))
+bestKeeping slots loads = best (keep (comparedKeeping slots loads) (choices loads))
 
 -- "Of these it returns the best, by the same two rules, that has P² + Q² ≤ S² in every slot"
 unfoldable pub strictPlan : Problem → Option Choice
@@ -41,6 +45,13 @@ strictPlan b = bestKeeping (slotsOf b) (b .loads)
 pub record Compared (b : Problem) (c : Choice) : Type 0 where
   pub choice : IsChoice (b .loads) c
   pub greatest : (other : Choice) → IsChoice (b .loads) other → gridsOf (slotsOf b) other ≡ gridsOf (slotsOf b) c → NoBetter other c
+
+-- there is exactly "one choice for each list of grid pairs" that a choice has (proofs/StrictLaws, `one-for-each`)
+abbrev pub OneForEach : Type 0
+OneForEach =
+    (book : List ℕ) (b : Problem) → readBook book ≡ done b → (c : Choice) → IsChoice (b .loads) c
+    → (d : Choice) × Compared b d × (gridsOf (slotsOf b) d ≡ gridsOf (slotsOf b) c)
+    × ((other : Choice) → Compared b other → gridsOf (slotsOf b) other ≡ gridsOf (slotsOf b) c → other ≡ d)
 
 pub record IsStrictPlan (b : Problem) (c : Choice) : Type 0 where
   pub compared : Compared b c
@@ -82,7 +93,7 @@ pub record SomeKeeping (b : Problem) : Type 0 where
 abbrev pub StrictAnswered : List ℕ → ℕ → ℕ → ℕ → Type 0
 StrictAnswered book words room number = NumberIs (StrictPast book words room) SomeKeeping number
 
--- "a choice has d² × (P² + Q²) ≤ (d - 2)² × S² in every slot"
+-- "a choice has d² × (P² + Q²) ≤ (d - 2)² × S² in every slot"; d is 2 or more here, as 20 comes before
 abbrev pub HasMargin : Problem → Choice → Type 0
 HasMargin b c = (slot : ℕ) → slot < T b → square (b .fineness) * apparentSquaredIn slot c ≤ square (b .fineness - 2) * square (S b slot)
 
@@ -106,3 +117,9 @@ pub record NeverAbove (book : List ℕ) (words room : ℕ) (sheet : List ℕ) : 
   pub worth : (other : Choice) → IsChoice (b .loads) other → HasMargin b other → worthOf other ≤ worthOf choice
   -- the plain planner gives a sheet too, of at least that worth
   pub plain : (x : Output) × (plannerResult book words room ≡ done x) × (worthOf choice ≤ x .worth)
+
+-- WHERE THE PLAIN PLANNER'S PLAN KEEPS EVERY LIMIT, and d is not 1, the strict planner's result is the same (proofs/StrictGivenLaws, `same-sheet`)
+abbrev pub SameSheet : Type 0
+SameSheet =
+    (book : List ℕ) (words room : ℕ) (b : Problem) → readBook book ≡ done b → (b .fineness ≡ 1 → ⊥) → (c : Choice) → plan b ≡ some c → KeepsLimits b c
+    → strictResult book words room ≡ plannerResult book words room

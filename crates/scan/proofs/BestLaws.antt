@@ -2,7 +2,7 @@
 -- Assumes nothing.
 use Prim.Native.Nat.{ℕ, zero, suc, _+_, _-_, _*_, _<_, _≤_}
 use mathlib.Core.Path.{_≡_, refl, sym, ap, ap₂, _∙_}
-use mathlib.Core.Bool.{Bool, true, false, cond}
+use mathlib.Core.Bool.{Bool, true, false, cond, false≢true}
 use mathlib.Core.List.{List}
 use mathlib.Core.Option.{Option, none, some}
 use native.Mathlib.Numerals.{add-one}
@@ -33,9 +33,6 @@ join-tie-less x y e h = simp (le-ltb (x .worth) (y .worth) (omega arith), eq-eqb
 
 join-tie-more : (x y : Key) → x .worth ≡ y .worth → x .code ≤ y .code → join (some x) (some y) ≡ some x
 join-tie-more x y e h = simp (le-ltb (x .worth) (y .worth) (omega arith), eq-eqb (x .worth) (y .worth) e, le-ltb (y .code) (x .code) h)
-
-no-true : true ≡ false → ⊥
-no-true e = let z : _≡_ {A = ℕ} 0 1 = cc in omega arith
 
 module _ (best c : Cell) where
   key-zero : c .worth ≡ 0 → keyOf c ≡ none
@@ -83,11 +80,8 @@ module _ (best c : Cell) where
       go (suc w) zero q = absurd (omega arith)
       go (suc w) (suc v) q = join-tie-less (record { worth = w; code = best .code }) (record { worth = v; code = c .code }) (omega arith) h
 
-  no-better-empty : (false ≡ true) → {A : Type 0} → A
-  no-better-empty z = let n : _≡_ {A = Bool} true false = sym z in absurd (no-true n)
-
   pub better-empty : c .worth ≡ 0 → Better best c false
-  better-empty e = record { reached = λ z. no-better-empty z; yes-better = λ z. no-better-empty z; no-better = λ z. kept-empty e }
+  better-empty e = record { reached = λ z. absurd (false≢true z); yes-better = λ z. absurd (false≢true z); no-better = λ z. kept-empty e }
 
   -- a cell that is not empty
   module _ (some-worth : c .worth ≡ 0 → ⊥) where
@@ -108,23 +102,23 @@ module _ (best c : Cell) where
 -- ---- the test of a cell
 
 -- what is not better leaves the best, whether it passes or not
-not-taken : (t : Key → Bool) (x y : Option Key) → join x y ≡ x → x ≡ join x (passing t y)
+not-taken : (t : ℕ → Bool) (x y : Option Key) → join x y ≡ x → x ≡ join x (passing t y)
 not-taken t x none e = sym e
-not-taken t x (some y) e = go (t y)
+not-taken t x (some y) e = go (t (y .code))
   where
     go : (p : Bool) → x ≡ join x (cond p (some y) none)
     go true = sym e
     go false = sym (join-none x)
 
 -- p tells whether the cell's code passes: then its key does, or nothing
-module _ (t : Key → Bool) (c : Cell) {p : Bool} (h : (worth : ℕ) → p ≡ t (record { worth = worth; code = c .code })) where
+module _ (t : ℕ → Bool) (c : Cell) {p : Bool} (h : p ≡ t (c .code)) where
   passed : p ≡ true → passing t (keyOf c) ≡ keyOf c
   unfolding keyOf
   passed e = go (c .worth)
     where
       go : (w : ℕ) → passing t (keyIf w (c .code)) ≡ keyIf w (c .code)
       go zero = refl
-      go (suc w) = rw (sym (h w), e)
+      go (suc w) = rw (sym h, e)
 
   not-passed : p ≡ false → passing t (keyOf c) ≡ none
   unfolding keyOf
@@ -132,7 +126,7 @@ module _ (t : Key → Bool) (c : Cell) {p : Bool} (h : (worth : ℕ) → p ≡ t
     where
       go : (w : ℕ) → passing t (keyIf w (c .code)) ≡ none
       go zero = refl
-      go (suc w) = rw (sym (h w), e)
+      go (suc w) = rw (sym h, e)
 
 -- the best after the cell d, where r tells whether it is better
 module _ (best : Cell) {c d : Cell} (e : c ≡ d) {r : Bool} (b : Better best c r) where
@@ -145,11 +139,11 @@ module _ (best : Cell) {c d : Cell} (e : c ≡ d) {r : Bool} (b : Better best c 
       go zero n k = absurd (n refl)
       go (suc w) n k = k (record { worth = w; code = c .code }) refl
 
-  module _ (t : Key → Bool) where
+  module _ (t : ℕ → Bool) where
     pub best-kept : r ≡ false → keyOf best ≡ join (keyOf best) (passing t (keyOf d))
     best-kept z = not-taken t (keyOf best) (keyOf d) (ap (λ x. join (keyOf best) (keyOf x)) (sym e) ∙ b .no-better z)
 
-    module _ {p : Bool} (h : (worth : ℕ) → p ≡ t (record { worth = worth; code = c .code })) where
+    module _ {p : Bool} (h : p ≡ t (c .code)) where
       pub best-taken : r ≡ true → p ≡ true → keyOf c ≡ join (keyOf best) (passing t (keyOf d))
       best-taken z k = sym (b .yes-better z) ∙ ap (join (keyOf best)) (sym (passed t c h k)) ∙ ap (λ x. join (keyOf best) (passing t (keyOf x))) e
 

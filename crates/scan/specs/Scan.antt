@@ -24,22 +24,22 @@ pub record Better (best c : Cell) (r : Bool) : Type 0 where
 
 -- ---- the tests
 
--- a test of a cell, by its row and column and by the key that it holds
+-- a test of a cell, by its row and column and by the code that it holds
 abbrev pub CellTest : Type 0
-CellTest = ℕ → ℕ → Key → Bool
+CellTest = ℕ → ℕ → ℕ → Bool
 
 -- every slot admits the cell's pairs
 abbrev pub admission : List Slot → CellTest
-admission ss row col k = admitsAll ss (gridFrom ss row col)
+admission ss row col code = admitsAll ss (gridFrom ss row col)
 
 -- the choice that the cell holds keeps every limit
 abbrev pub trueSums : Problem → CellTest
-trueSums b row col k = keepsLimits (slotsOf b) (choiceCoded b (k .code))
+trueSums b row col code = keepsLimits (slotsOf b) (choiceCoded b code)
 
 -- the test of a name
-abbrev pub testOf : Test → List Slot → Problem → CellTest
-testOf Admission ss b = admission ss
-testOf TrueSums ss b = trueSums b
+abbrev pub testOf : Test → Problem → CellTest
+testOf Admission b = admission (slotsOf b)
+testOf TrueSums b = trueSums b
 
 -- ---- the best of the cells that pass a test
 

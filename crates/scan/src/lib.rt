@@ -5,11 +5,12 @@ use table::Cell;
 ghost use mathlib.Core.Path.{_≡_};
 ghost use Prim.Native.Nat.{ℕ, _+_, _*_, _<_, _≤_};
 ghost use lib.ListN.{length};
+ghost use Rattle.model.specs.Grid.{slotsOf};
 ghost use Rattle.model.specs.Cells.{join, joinUpto, passing};
 ghost use Rattle.model.specs.Values.{Held, IsCode, problemOf};
 ghost use Rattle.table.specs.Table.{cellAt, keyOf};
 ghost use Rattle.stretch.specs.Stretch.{GridFits, StretchesFit};
-ghost use Rattle.admits.specs.Admits.{SlotsHeld};
+ghost use Rattle.grid.specs.Geometry.{GridIs};
 ghost use Rattle.scan.specs.Scan.{Better, testOf, passedIn, bestOfLayer, Coded, RowCoded, LayerCoded};
 
 // The test that a cell of the last layer must pass.
@@ -36,10 +37,9 @@ fn beats(c: Cell, best: Cell) -> bool
 // Whether the cell of a row and a column, which holds a choice's code, passes the test.
 fn passes(code: u64, row: usize, col: usize, grid: Grid, book: Book, test: Test) -> bool
     requires { ⌜ Held book ⌝ }
-    requires { ⌜ SlotsHeld grid (book .count) (book .limits) ⌝ }
+    requires { ⌜ GridIs (slotsOf (problemOf book)) grid ⌝ }
     requires { ⌜ IsCode (problemOf book) code ⌝ }
-    ensures { λ r. ⌜ ((h : SlotsHeld grid (book .count) (book .limits)) (worth : ℕ)
-        → r ≡ testOf test (h .laid .slots) (problemOf book) row col (record { worth = worth; code = code })) ⌝ }
+    ensures { λ r. ⌜ r ≡ testOf test (problemOf book) row col code ⌝ }
 {
     match test {
         Test::Admission => {
@@ -63,10 +63,9 @@ fn better_at(
 ) -> Cell
     requires { ⌜ 2 * x + 1 < length (now work) ⌝ }
     requires { ⌜ Held book ⌝ }
-    requires { ⌜ SlotsHeld grid (book .count) (book .limits) ⌝ }
+    requires { ⌜ GridIs (slotsOf (problemOf book)) grid ⌝ }
     requires { ⌜ Coded (problemOf book) (keyOf (cellAt (now work) x)) ⌝ }
-    ensures { λ r. ⌜ ((h : SlotsHeld grid (book .count) (book .limits))
-        → keyOf r ≡ join (keyOf best) (passing (testOf test (h .laid .slots) (problemOf book) row col) (keyOf (cellAt (now (work .entry)) x)))) ⌝ }
+    ensures { λ r. ⌜ keyOf r ≡ join (keyOf best) (passing (testOf test (problemOf book) row col) (keyOf (cellAt (now (work .entry)) x))) ⌝ }
 {
     let c = table::get(work, x);
     if !beats(c, best) {
@@ -92,10 +91,10 @@ fn scan_row(
 ) -> Cell
     requires { ⌜ 2 * (at + high) ≤ length (now work) ⌝ }
     requires { ⌜ Held book ⌝ }
-    requires { ⌜ SlotsHeld grid (book .count) (book .limits) ⌝ }
+    requires { ⌜ GridIs (slotsOf (problemOf book)) grid ⌝ }
     requires { ⌜ RowCoded (problemOf book) (now work) at low high ⌝ }
-    ensures { λ r. ⌜ ((h : SlotsHeld grid (book .count) (book .limits)) (width : ℕ) → high ≤ width
-        → keyOf r ≡ join (keyOf first) (joinUpto width (passedIn (testOf test (h .laid .slots) (problemOf book)) (now (work .entry)) at low high row))) ⌝ }
+    ensures { λ r. ⌜ ((width : ℕ) → high ≤ width
+        → keyOf r ≡ join (keyOf first) (joinUpto width (passedIn (testOf test (problemOf book)) (now (work .entry)) at low high row))) ⌝ }
 {
     let mut best = first;
     let mut col = low;
@@ -123,10 +122,9 @@ pub fn scan(
     requires { ⌜ 2 * (cur + grid .cells) ≤ length (now work) ⌝ }
     requires { ⌜ StretchesFit (now lows) (now highs) grid ⌝ }
     requires { ⌜ Held book ⌝ }
-    requires { ⌜ SlotsHeld grid (book .count) (book .limits) ⌝ }
+    requires { ⌜ GridIs (slotsOf (problemOf book)) grid ⌝ }
     requires { ⌜ LayerCoded (problemOf book) (now work) (now lows) (now highs) grid cur ⌝ }
-    ensures { λ r. ⌜ ((h : SlotsHeld grid (book .count) (book .limits))
-        → keyOf r ≡ bestOfLayer (testOf test (h .laid .slots) (problemOf book)) (now (work .entry)) (now (lows .entry)) (now (highs .entry)) grid cur) ⌝ }
+    ensures { λ r. ⌜ keyOf r ≡ bestOfLayer (testOf test (problemOf book)) (now (work .entry)) (now (lows .entry)) (now (highs .entry)) grid cur ⌝ }
 {
     let rows = grid.rows;
     let width = grid.width;

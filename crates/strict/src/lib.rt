@@ -7,7 +7,7 @@ ghost use Rattle.model.specs.Trials.{WordsKept};
 ghost use Rattle.model.specs.Answers.{Writes};
 ghost use Rattle.model.specs.Strict.{strictResult, strictFree, StrictAnswered, NeverAbove, NoMargin};
 
-// The plain planner with another test of a cell, and refusal 20 for d = 1, with which there would be no margin.
+// The plain planner with another test of a cell, and refusal 20 for d = 1, with which no choice could have the margin.
 pub fn plan_strict(book: &[u8], work: &mut [u64], sheet: &mut [u8]) -> Answer
     ensures result { λ r. ⌜ Writes (strictResult (now (book .entry)) (length (now (work .entry))) (length (now (sheet .entry)))) (now (sheet .entry)) (now (sheet .exit)) r ⌝ }
     ensures words { λ _. ⌜ WordsKept (strictFree (now (book .entry)) (length (now (work .entry))) (length (now (sheet .entry)))) (now (work .entry)) (now (work .exit)) ⌝ }

@@ -114,13 +114,8 @@ fn order_worths(load: &mut Load) {
 mod tests {
     use super::*;
     use crate::draw::text;
-    use crate::kinds::SMALL;
+    use crate::kinds::FINE;
     use crate::reference::Case;
-
-    const FINE: Bounds = Bounds {
-        least_fineness: 2,
-        ..SMALL
-    };
 
     #[test]
     fn drawn_books_are_read_back() {

@@ -1,18 +1,12 @@
 //! The kinds of inputs of the strict planner.
 
-use super::{all_calls, all_shortages, case, found, needed_words, refused_last, strict_any, LARGER, SMALL};
+use super::{all_calls, all_shortages, case, found, needed_words, refused_last, strict_any, FINE, LARGER, SMALL};
 use crate::damage::fault;
 use crate::draw::{self, ratios, steps, Bounds};
 use crate::random::Random;
 use crate::reference::book::Book;
 use crate::reference::{grid, plan, quick, Case, MOST_CELLS};
 use crate::session::Session;
-
-/// Books that are not too coarse.
-const FINE: Bounds = Bounds {
-    least_fineness: 2,
-    ..SMALL
-};
 
 /// Books of the finest d.
 const FINEST: Bounds = Bounds {

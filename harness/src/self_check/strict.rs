@@ -5,8 +5,9 @@ use super::{
     NEED, NOT_SPENT, SPENT, STRICT,
 };
 use crate::call::{Call, Input};
+use crate::damage::fault;
 use crate::draw::{self, steps, Bounds};
-use crate::kinds::SMALL;
+use crate::kinds::{FINE, SMALL};
 use crate::random::Random;
 use crate::reference::book::Book;
 use crate::reference::plan::{self, Plan, Planned};
@@ -65,19 +66,6 @@ const PLANNED: &[Alteration] = &[
     ("line 1", |call| call.answer.first.line = 1),
 ];
 
-const TRIED_LATER: &[Alteration] = &[
-    ("9 before 20", |call| call.answer.first.number = 9),
-    ("10 before 20", |call| call.answer.first.number = 10),
-    ("11 before 20", |call| call.answer.first.number = 11),
-    ("12 before 20", |call| call.answer.first.number = 12),
-    ("17 before 20", |call| call.answer.first.number = 17),
-];
-
-const TRIED_SOONER: &[Alteration] = &[("20 before the book's own", |call| {
-    call.answer.first.number = 20;
-    call.answer.first.line = 0;
-})];
-
 fn refused(call: &mut Call, number: u64) {
     call.answer.first = Answer {
         number,
@@ -99,10 +87,10 @@ pub fn bases() -> Vec<Base> {
         strict_base("plan_strict, refusal 17", &last, TAKEN),
         strict_base("plan_strict, refusal 12 before 17", &spent, NOT_SPENT),
         strict_base("plan_strict, refusal 20", &plenty, PLANNED),
-        strict_base("plan_strict, refusal 20 before 12", &little, TRIED_LATER),
+        strict_base("plan_strict, refusal 20 before 12", &little, &[]),
         // Oversize too, with a sheet that is longer than the buffer.
-        strict_base("plan_strict, refusal 20 before 9 and 11", &large, TRIED_LATER),
-        strict_base("plan_strict, refusal 8 before 20", &trailing, TRIED_SOONER),
+        strict_base("plan_strict, refusal 20 before 9 and 11", &large, &[]),
+        strict_base("plan_strict, refusal 8 before 20", &trailing, &[]),
     ]
 }
 
@@ -167,36 +155,43 @@ impl Answered {
     }
 }
 
-const FINE_BOUNDS: Bounds = Bounds {
-    least_fineness: 2,
-    ..SMALL
-};
-
 /// Ways to draw a book.
 const DRAWS: [fn(&mut Random, Bounds) -> Book; 3] = [draw::book, steps::at_ends, steps::shared];
 
 /// With d of 2 or more; with budgets that suffice and that do not.
-pub const FINE: Books = ("fine books", |random| {
+pub const FINE_BOOKS: Books = ("fine books", |random| {
     let draw = random.pick(&DRAWS);
-    let book = draw(random, FINE_BOUNDS);
+    let book = draw(random, FINE);
     with_some_budget(random, &book)
 });
 
 /// With d of 1 or 2: oversize ones, and others with budgets that suffice and that do not, of which some have no plan.
-pub const COARSE: Books = ("coarse books", |random| {
+pub const COARSE_BOOKS: Books = ("coarse books", |random| {
     let fineness = random.pick(&[1, 1, 2]);
     let with_fineness = |book: Book| Book { fineness, ..book };
     match random.below(3) {
         0 => Case::new(draw::text(&with_fineness(draw::too_many_cells(random)))),
         1 => {
-            let book = draw::heated(random, FINE_BOUNDS, &[8..=16], &(8..=16));
+            let book = draw::heated(random, FINE, &[8..=16], &(8..=16));
             with_some_budget(random, &with_fineness(book))
         }
         _ => {
-            let book = draw::book(random, FINE_BOUNDS);
+            let book = draw::book(random, FINE);
             with_some_budget(random, &with_fineness(book))
         }
     }
+});
+
+/// With d = 1 and a fault of 1 to 8.
+pub const FAULTY_BOOKS: Books = ("coarse books with a fault", |random| {
+    let book = Book {
+        fineness: 1,
+        ..draw::book(random, SMALL)
+    };
+    let mut text = draw::text(&book);
+    let refusal = random.pick(&[1, 2, 3, 4, 5, 6, 7, 8]);
+    fault(random, &mut text, refusal);
+    Case::new(text)
 });
 
 /// Of which choices are compared.
@@ -333,6 +328,15 @@ pub const COARSE_MISTAKES: &[Mistake] = &[
         }
     }),
 ];
+
+/// Of refusal 20 beside the book's own: as if it were tried once the header is read.
+pub const FAULT_MISTAKES: &[Mistake] = &[("20 before the book's own", STRICT, |case, input| {
+    changed(case, input, |case, answer| {
+        if answer.line > 1 && case.text.get(6..8) == Some(b"01") {
+            (answer.number, answer.line) = (20, 0);
+        }
+    })
+})];
 
 /// What the strict planner has to leave where this is its plan.
 fn with_strict(case: &Case, input: Input, plan: Option<Plan>) -> Outcome {

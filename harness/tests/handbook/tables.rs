@@ -42,7 +42,7 @@ pub const TABLES: [Table; 7] = [
     },
     Table {
         name: "margins",
-        head: "| d | (d - 2)/d, % of S |",
+        head: "| d | margin 2/d, % of S |",
         row: margin_row,
     },
     Table {
@@ -148,15 +148,14 @@ fn relay_row(numbers: &[u64]) -> Option<String> {
     ))
 }
 
-/// (d - 2)/d in percent, and of both settings, rounded down.
+/// 2/d in percent, rounded up; (d - 2)/d in percent, and of both settings, rounded down.
 fn margin_row(numbers: &[u64]) -> Option<String> {
     let [fineness] = first(numbers)?;
     let within = |whole: u64| Some(whole * fineness.checked_sub(2)? / fineness);
     let (percent, limits) = (within(100_000)?, [within(4_000)?, within(6_300)?]);
+    let [margin, percent] = [200_000_u64.div_ceil(fineness), percent].map(thousandths);
     Some(format!(
-        "| {fineness} | {}.{:03} | {} |",
-        percent / 1_000,
-        percent % 1_000,
+        "| {fineness} | {margin} | {percent} | {} |",
         limits.map(|limit| tenths(limit.into())).join(" | ")
     ))
 }
@@ -193,6 +192,10 @@ fn first<const COUNT: usize>(numbers: &[u64]) -> Option<[u64; COUNT]> {
 
 fn tenths(number: u128) -> String {
     format!("{}.{}", number / 10, number % 10)
+}
+
+fn thousandths(number: u64) -> String {
+    format!("{}.{:03}", number / 1_000, number % 1_000)
 }
 
 fn commas(number: u128) -> String {

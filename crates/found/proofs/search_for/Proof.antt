@@ -4,7 +4,7 @@ use borrow.Author.Needs.{needs}
 use Rattle.grid.proofs.SlotLaws.{laid}
 use Rattle.search.specs.Search.{Modelled}
 use Rattle.search.proofs.ModelLaws.{grid-fits}
-use Rattle.found.proofs.SearchLaws.{scanned, model, layer-room, words-enough, words-kept, layer-coded, found-over, found-within}
+use Rattle.found.proofs.SearchLaws.{model, layer-room, words-enough, words-kept, layer-coded, found-over, found-within}
 use Rattle.found.proofs.search_for.Statement.{statement}
 use Rattle.found.proofs.search_for.Tie as tie
 
@@ -55,7 +55,7 @@ scan-requires c κs =
         layer-room q (words-enough (s .args .book) (p .0) (s .args .grid) (p .1 .0) (s .args .work .now) (p .1 .1)),
         (
           record { low-fits = q .low-fits; high-fits = q .high-fits },
-          (p .0, (scanned (s .args .book) (p .0) (s .args .grid) (p .1 .0), layer-coded (s .args .book) (p .0) (s .args .grid) (p .1 .0) (l .result) loads _ _ _ _ (w .1))),
+          (p .0, (p .1 .0, layer-coded (s .args .book) (p .0) (s .args .grid) (p .1 .0) (l .result) loads _ _ _ _ (w .1))),
         ),
       ),
     )

@@ -16,7 +16,7 @@ beats-requires c κs = search needs
 returns : tie.Need-returns
 returns c =
     let a = c .before .before .before .before .args in
-    λ h. best-kept (a .best) (c .before .before .get .ensures) (c .before .beats .ensures) (testOf (a .test) (h .laid .slots) (problemOf (a .book)) (a .row) (a .col)) (not-true _ (c .if1 .taken))
+    best-kept (a .best) (c .before .before .get .ensures) (c .before .beats .ensures) (testOf (a .test) (problemOf (a .book)) (a .row) (a .col)) (not-true _ (c .if1 .taken))
 
 passes-requires : tie.Need-passes-requires
 passes-requires c κs =
@@ -29,14 +29,14 @@ passes-requires c κs =
 returns-2 : tie.Need-returns-2
 returns-2 c =
     let a = c .before .before .before .before .before .before .args in
-    λ h. best-taken (a .best) (c .before .before .before .before .get .ensures) (c .before .before .before .beats .ensures) (testOf (a .test) (h .laid .slots) (problemOf (a .book)) (a .row) (a .col))
-    (c .before .passes .ensures h) (not-false _ (c .before .before .if1 .left)) (c .if2 .taken)
+    best-taken (a .best) (c .before .before .before .before .get .ensures) (c .before .before .before .beats .ensures) (testOf (a .test) (problemOf (a .book)) (a .row) (a .col))
+    (c .before .passes .ensures) (not-false _ (c .before .before .if1 .left)) (c .if2 .taken)
 
 returns-3 : tie.Need-returns-3
 returns-3 c =
     let a = c .before .before .before .before .before .before .args in
-    λ h. best-refused (a .best) (c .before .before .before .before .get .ensures) (c .before .before .before .beats .ensures) (testOf (a .test) (h .laid .slots) (problemOf (a .book)) (a .row) (a .col))
-    (c .before .passes .ensures h) (c .if2 .left)
+    best-refused (a .best) (c .before .before .before .before .get .ensures) (c .before .before .before .beats .ensures) (testOf (a .test) (problemOf (a .book)) (a .row) (a .col))
+    (c .before .passes .ensures) (c .if2 .left)
 
 pub better-at-spec : {M : Type 1} → statement M
 better-at-spec =

@@ -6,7 +6,6 @@ use borrow.Author.Needs.{needs}
 use lib.ListN.{getD, length}
 use Rattle.model.specs.Values.{problemOf}
 use Rattle.table.specs.Table.{keyOf}
-use Rattle.admits.specs.Admits.{SlotsHeld}
 use Rattle.scan.specs.Scan.{testOf}
 use Rattle.scan.proofs.ScanLaws.{bestOfRows, rows-none, rows-more, rows-all, row-coded, row-room}
 use Rattle.scan.proofs.scan.Statement.{statement}
@@ -14,7 +13,7 @@ use Rattle.scan.proofs.scan.Tie as tie
 
 abbrev Inv-loop : tie.InvT-loop
 Inv-loop work grid cur lows highs book test rows width best₀ row₀ best row =
-    (row ≤ rows) × ((h : SlotsHeld grid (book .count) (book .limits)) → keyOf best ≡ bestOfRows (testOf test (h .laid .slots) (problemOf book)) work lows highs cur width row)
+    (row ≤ rows) × (keyOf best ≡ bestOfRows (testOf test (problemOf book)) work lows highs cur width row)
 
 abbrev μ-loop : tie.MeasureT-loop
 μ-loop work grid cur lows highs book test rows width best₀ row₀ best row = rows - row
@@ -22,7 +21,7 @@ abbrev μ-loop : tie.MeasureT-loop
 loop-holds : tie.Need-loop-holds Inv-loop μ-loop
 loop-holds c =
     let a = c .before .args in
-    (omega arith, λ h. rows-none (testOf (a .test) (h .laid .slots) (problemOf (a .book))) (a .work .now) (a .lows .now) (a .highs .now) (a .cur) (a .grid .width))
+    (omega arith, rows-none (testOf (a .test) (problemOf (a .book))) (a .work .now) (a .lows .now) (a .highs .now) (a .cur) (a .grid .width))
 
 mul-low : tie.Need-mul-low Inv-loop μ-loop
 mul-low c = omega (arith, c .before .before .before .pre .0 .rows-fit)
@@ -73,16 +72,15 @@ loop-again c =
     let a = s .args in
     let l = c .before .before .before .before .loop in (
       omega arith,
-      λ h.
-          rows-more (testOf (a .test) (h .laid .slots) (problemOf (a .book))) (a .work .now) (a .lows .now) (a .highs .now) (a .cur) (a .grid .width) (l .row) (l .inv .1 h)
-          (c .scan-row .ensures h (a .grid .width) (s .pre .1 .1 .0 .high-fits (l .row) (c .before .before .before .loop-test .taken))),
+      rows-more (testOf (a .test) (problemOf (a .book))) (a .work .now) (a .lows .now) (a .highs .now) (a .cur) (a .grid .width) (l .row) (l .inv .1)
+          (c .scan-row .ensures (a .grid .width) (s .pre .1 .1 .0 .high-fits (l .row) (c .before .before .before .loop-test .taken))),
     )
 
 returns : tie.Need-returns Inv-loop μ-loop
 returns c =
     let a = c .before .before .before .args in
     let l = c .before .loop in
-    λ h. rows-all (testOf (a .test) (h .laid .slots) (problemOf (a .book))) (a .work .now) (a .lows .now) (a .highs .now) (a .grid) (a .cur) (l .row) (c .loop-test .left) (l .inv .0) (l .inv .1 h)
+    rows-all (testOf (a .test) (problemOf (a .book))) (a .work .now) (a .lows .now) (a .highs .now) (a .grid) (a .cur) (l .row) (c .loop-test .left) (l .inv .0) (l .inv .1)
 
 pub scan-spec : {M : Type 1} → statement M
 scan-spec =

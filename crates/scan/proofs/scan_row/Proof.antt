@@ -8,7 +8,6 @@ use borrow.Author.Needs.{needs}
 use Rattle.model.specs.Cells.{join, joinUpto}
 use Rattle.model.specs.Values.{problemOf}
 use Rattle.table.specs.Table.{keyOf}
-use Rattle.admits.specs.Admits.{SlotsHeld}
 use Rattle.scan.specs.Scan.{testOf, passedIn}
 use Rattle.scan.proofs.BestLaws.{row-start, row-next, row-less, row-past, cell-in-row}
 use Rattle.scan.proofs.scan_row.Statement.{statement}
@@ -17,7 +16,7 @@ use Rattle.scan.proofs.scan_row.Tie as tie
 abbrev Inv-loop : tie.InvT-loop
 Inv-loop work at low high row grid book test best₀ col₀ best col =
     (low ≤ col)
-    × ((h : SlotsHeld grid (book .count) (book .limits)) → keyOf best ≡ join (keyOf best₀) (joinUpto col (passedIn (testOf test (h .laid .slots) (problemOf book)) work at low high row)))
+    × (keyOf best ≡ join (keyOf best₀) (joinUpto col (passedIn (testOf test (problemOf book)) work at low high row)))
 
 abbrev μ-loop : tie.MeasureT-loop
 μ-loop work at low high row grid book test best₀ col₀ best col = high - col
@@ -25,7 +24,7 @@ abbrev μ-loop : tie.MeasureT-loop
 loop-holds : tie.Need-loop-holds Inv-loop μ-loop
 loop-holds c =
     let a = c .before .args in
-    (omega arith, λ h. row-start (testOf (a .test) (h .laid .slots) (problemOf (a .book))) (a .work .now) (a .at) (a .low) (a .high) (a .row) (keyOf (a .first)))
+    (omega arith, row-start (testOf (a .test) (problemOf (a .book))) (a .work .now) (a .at) (a .low) (a .high) (a .row) (keyOf (a .first)))
 
 add-worth : tie.Need-add-worth Inv-loop μ-loop
 add-worth c = search needs
@@ -63,10 +62,9 @@ loop-again c =
     let l = c .before .before .before .before .loop in
     let k = c .before .before .before .loop-test .taken in (
       omega arith,
-      λ h.
-          ⊎-elim
-          (λ w. ap keyOf (w .2) ∙ row-next (testOf (a .test) (h .laid .slots) (problemOf (a .book))) (a .work .now) (a .at) (a .low) (a .high) (a .row) (keyOf (a .first)) (l .col) (l .inv .0) k (l .inv .1 h) (w .1 .ensures h))
-          (λ w. ap keyOf (w .1) ∙ row-less (testOf (a .test) (h .laid .slots) (problemOf (a .book))) (a .work .now) (a .at) (a .low) (a .high) (a .row) (keyOf (a .first)) (l .col) (l .best) (l .inv .0) k (l .inv .1 h) (w .0 .left))
+      ⊎-elim
+          (λ w. ap keyOf (w .2) ∙ row-next (testOf (a .test) (problemOf (a .book))) (a .work .now) (a .at) (a .low) (a .high) (a .row) (keyOf (a .first)) (l .col) (l .inv .0) k (l .inv .1) (w .1 .ensures))
+          (λ w. ap keyOf (w .1) ∙ row-less (testOf (a .test) (problemOf (a .book))) (a .work .now) (a .at) (a .low) (a .high) (a .row) (keyOf (a .first)) (l .col) (l .best) (l .inv .0) k (l .inv .1) (w .0 .left))
           (c .if1 .came),
     )
 
@@ -74,7 +72,7 @@ returns : tie.Need-returns Inv-loop μ-loop
 returns c =
     let a = c .before .before .before .args in
     let l = c .before .loop in
-    λ h width k. row-past (testOf (a .test) (h .laid .slots) (problemOf (a .book))) (a .work .now) (a .at) (a .low) (a .high) (a .row) (keyOf (a .first)) (l .col) width (c .loop-test .left) k (l .inv .1 h)
+    λ width k. row-past (testOf (a .test) (problemOf (a .book))) (a .work .now) (a .at) (a .low) (a .high) (a .row) (keyOf (a .first)) (l .col) width (c .loop-test .left) k (l .inv .1)
 
 pub scan-row-spec : {M : Type 1} → statement M
 scan-row-spec =
