@@ -46,17 +46,17 @@ pub record Compared (b : Problem) (c : Choice) : Type 0 where
   pub choice : IsChoice (b .loads) c
   pub greatest : (other : Choice) → IsChoice (b .loads) other → gridsOf (slotsOf b) other ≡ gridsOf (slotsOf b) c → NoBetter other c
 
+pub record IsStrictPlan (b : Problem) (c : Choice) : Type 0 where
+  pub compared : Compared b c
+  pub keeps : KeepsLimits b c
+  pub greatest : (other : Choice) → Compared b other → KeepsLimits b other → NoBetter other c
+
 -- there is exactly "one choice for each list of grid pairs" that a choice has (proofs/StrictLaws, `one-for-each`)
 abbrev pub OneForEach : Type 0
 OneForEach =
     (book : List ℕ) (b : Problem) → readBook book ≡ done b → (c : Choice) → IsChoice (b .loads) c
     → (d : Choice) × Compared b d × (gridsOf (slotsOf b) d ≡ gridsOf (slotsOf b) c)
     × ((other : Choice) → Compared b other → gridsOf (slotsOf b) other ≡ gridsOf (slotsOf b) c → other ≡ d)
-
-pub record IsStrictPlan (b : Problem) (c : Choice) : Type 0 where
-  pub compared : Compared b c
-  pub keeps : KeepsLimits b c
-  pub greatest : (other : Choice) → Compared b other → KeepsLimits b other → NoBetter other c
 
 -- ---- the call
 
