@@ -73,18 +73,6 @@ fn write_books(books: &[u8], work: &mut [u64], out: &mut [u8]) -> usize
     at
 }
 
-// Writes these bytes at the start of the buffer.
-fn copy(bytes: &[u8], out: &mut [u8])
-    requires { ⌜ length (now bytes) ≤ length (now out) ⌝ }
-    ensures { λ _. ⌜ now (out .exit) ≡ written (now (out .entry)) 0 (now (bytes .entry)) ⌝ }
-{
-    let mut i = 0;
-    while i < bytes.len() {
-        out[i] = bytes[i];
-        i += 1;
-    }
-}
-
 // The day. Whether its output fits is known only when all books are planned, and a refusal leaves the buffer as it is: so the output waits in a
 // buffer of its own.
 pub fn day(books: &[u8], work: &mut [u64], out: &mut [u8]) -> Answer
@@ -99,6 +87,6 @@ pub fn day(books: &[u8], work: &mut [u64], out: &mut [u8]) -> Answer
     if out.len() < length {
         return Answer::refusal(Refusal::OutputTooLong, 0);
     }
-    copy(&waiting[..length], out);
+    hex::copy(&waiting[..length], out, 0);
     Answer::success(length as u64, 0, 0)
 }

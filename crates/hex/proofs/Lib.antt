@@ -2,3 +2,4 @@
 pub mod WrittenLaws
 pub mod FieldLaws
 pub mod RangeLaws
+pub mod RoomLaws

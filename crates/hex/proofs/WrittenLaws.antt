@@ -77,6 +77,15 @@ then-written l l₁ l₂ first rest p e f q h =
     let k : length l₁ ≡ length l = ap length e ∙ length-written l 0 first (omega arith) in
     part-written l₁ l₂ rest p f (omega arith) ∙ write-on l l₁ 0 p first rest e (omega arith) (omega arith)
 
+-- bytes copied one by one, from the first on: one more
+pub copied-more : (bytes l l′ : List ℕ) (at i : ℕ) → l′ ≡ written l at (take i bytes) → i < length bytes → at + length bytes ≤ length l → length l′ ≡ length l
+    → set l′ (at + i) (getD bytes i 0) ≡ written l at (take (i + 1) bytes)
+copied-more bytes l l′ at i e h k n =
+    let m : at + i ≡ at + length (take i bytes) = ap (λ j. at + j) (sym (length-take-le i bytes (omega arith))) in
+    write-byte l′ (at + i) (getD bytes i 0) (omega (arith, n))
+    ∙ write-on l l′ at (at + i) (take i bytes) (getD bytes i 0 ∷ []) e m (omega arith)
+    ∙ ap (written l at) (sym (take-suc bytes i 0 h) ∙ ap (λ j. take j bytes) (sym (add-one i)))
+
 -- ---- the digits of x, written from the last on: with `left` of n digits still to write, `rest` is x without the others
 
 module _ (l : List ℕ) (at n x : ℕ) where

@@ -108,6 +108,18 @@ pub fn write(buf: &mut [u8], at: usize, n: usize, x: u64)
     }
 }
 
+// Writes these bytes from `at` on.
+pub fn copy(bytes: &[u8], buf: &mut [u8], at: usize)
+    requires { ⌜ at + length (now bytes) ≤ length (now buf) ⌝ }
+    ensures { λ _. ⌜ now (buf .exit) ≡ written (now (buf .entry)) at (now (bytes .entry)) ⌝ }
+{
+    let mut i = 0;
+    while i < bytes.len() {
+        buf[at + i] = bytes[i];
+        i += 1;
+    }
+}
+
 pub fn outside(x: u64, low: u64, high: u64) -> bool
     ensures { λ r. ⌜ r ≡ not (within low high x) ⌝ }
 {

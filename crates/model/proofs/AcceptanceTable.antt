@@ -19,7 +19,7 @@ use Rattle.model.specs.declared.ChargeAnswer.{ChargeAnswer}
 use Rattle.model.specs.Lists.{upto, all, any, concat, sameLists}
 use Rattle.model.specs.Frames.{isDigit, digitValue, digit, valueFrom, field, digits, signed, unsigned, lineLength}
 use Rattle.model.specs.Refusals.{Result, refused, done, numberOf, first}
-use Rattle.model.specs.Answers.{Output, answerOf}
+use Rattle.model.specs.Answers.{Output, answerOf, inRoom}
 use Rattle.model.specs.Book.{Problem, statesRatio, ratioDigits, ratioIn, standingPairs, mustRun, optionStart, standingPower, headerRules, someExceeds, loadRules, readLoads, readBook}
 use Rattle.model.specs.Choice.{Choice, settingOf, square}
 use Rattle.model.specs.Grid.{stepFor, slotsOf, floorDiv, bestAdmitted, plan}
@@ -35,7 +35,7 @@ use Rattle.model.specs.Charge.{rounded, chargeOf, choiceCharge, sheetCha
 use Rattle.model.specs.Order.{Running, starting, runningMask, andNot, startCount, wrongNames, someBlocked, left, ready, startNext, startedAfter, startOrder, OrderData, loadsOrder, sheetsOrder, orderResult}
 use Rattle.model.specs.Day.{booksFrom, dayOutput, dayRules, dayOf, dayResult, dayFreeWords}
 use Rattle.model.specs.Strict.{bestKeeping, strictPlan, strictBook, strictResult, strictFree}
-use Rattle.model.specs.Views.{accepted, shown, runningLoads, numberAndLevel, millLine, millResult, supplyView, supplyResult}
+use Rattle.model.specs.Views.{accepted, runningLoads, numberAndLevel, millLine, millResult, supplyView, supplyResult}
 use Rattle.model.proofs.ListLaws.{all-join}
 
 abbrev pub bytesOf : String → List ℕ
@@ -640,7 +640,7 @@ unfolding holds standingRows programOutput refusalLine plannerResult planSheet f
     isDigit digitValue digit valueFrom field digits signed unsigned lineLength
     slotsOf plan bestAdmitted cells trials reachedCount sheetBytes firstLine slotLines sumsAndLimits slotLine numbersOf
     quickResult quickSheet quickRules quickChoice takeIfFits sizeOf settingOf
-    sheetChoice chargeResult sheetCharge choiceCharge chargeOf rounded accepted shown runningLoads numberAndLevel millLine millResult supplyView supplyResult
+    sheetChoice chargeResult sheetCharge choiceCharge chargeOf rounded accepted inRoom runningLoads numberAndLevel millLine millResult supplyView supplyResult
     orderResult sheetsOrder loadsOrder starting runningMask andNot startCount wrongNames someBlocked left ready startNext startedAfter startOrder ones onesIn
 standing-rows-hold = refl
 
@@ -651,7 +651,7 @@ unfolding holds mustRunRows programOutput refusalLine plannerResult planSheet fi
     slotsOf plan bestAdmitted cells trials reachedCount sheetBytes firstLine slotLines sumsAndLimits slotLine numbersOf
     quickResult quickSheet quickRules quickChoice takeIfFits sizeOf settingOf
     sheetChoice sheetData readerResult chargeResult sheetCharge choiceCharge chargeOf rounded
-    accepted shown runningLoads numberAndLevel millLine millResult supplyView supplyResult orderResult sheetsOrder
+    accepted inRoom runningLoads numberAndLevel millLine millResult supplyView supplyResult orderResult sheetsOrder
 must-run-rows-hold = refl
 
 sheet-rows-hold : all holds sheetRows ≡ true
@@ -660,7 +660,7 @@ unfolding holds sheetRows refusalLine
     isDigit digitValue digit valueFrom field digits signed unsigned lineLength
     sheetBytes firstLine slotLines sumsAndLimits slotLine numbersOf sheetChoice readerResult sheetData
     chargeResult sheetCharge choiceCharge chargeOf rounded
-    accepted shown runningLoads numberAndLevel millLine millResult supplyView supplyResult
+    accepted inRoom runningLoads numberAndLevel millLine millResult supplyView supplyResult
     orderResult sheetsOrder loadsOrder starting runningMask andNot startCount wrongNames someBlocked left ready startNext startedAfter startOrder ones onesIn
 sheet-rows-hold = refl
 

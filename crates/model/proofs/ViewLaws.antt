@@ -1,56 +1,31 @@
 -- M-103: a view and its room, the length of the mill's view, and of the supply company's that its lines are the sheet's, and what one call and two calls
 -- tell.
 -- Assumes nothing.
-use Prim.Native.Nat.{ℕ, _+_, _*_, _^_, _<_, _≤_}
+use Prim.Native.Nat.{ℕ, _+_, _*_, _^_, _<_}
 use mathlib.Core.Path.{_≡_, refl, sym, ap, ap₂, _∙_, subst}
 use mathlib.Core.List.{List, [], _∷_, _++_, map, append-assoc}
 use native.Mathlib.Omega.{arith}
-use lib.Dec.{ltb}
 use lib.IntN.{natAbs}
-use lib.ListN.{length, take, drop, length-append}
+use lib.ListN.{length, drop, length-append}
 use lib.Seq.{drop-at}
-use borrow.Author.Tests.{lt-ltb, le-ltb}
 use Rattle.model.specs.declared.Answer.{Answer}
-use Rattle.model.specs.declared.Finding.{Finding}
-use Rattle.model.specs.declared.Finding.the-variants.{Passed, Refused}
-use Rattle.model.specs.declared.Refusal.the-variants.{BufferTooSmall}
 use Rattle.model.specs.Lists.{upto, Every, concat}
 use Rattle.model.specs.Frames.{digits, unsigned}
-use Rattle.model.specs.Refusals.{Result, refused, done, first, checked, andThen}
-use Rattle.model.specs.Answers.{Output, bytesOnly, Writes, roomRule}
+use Rattle.model.specs.Refusals.{Result, done, andThen}
+use Rattle.model.specs.Answers.{Output, Writes}
 use Rattle.model.specs.Book.{Power, Problem, readBook}
 use Rattle.model.specs.Choice.{Choice, IsChoice, levelOn}
 use Rattle.model.specs.Sheet.{lf, firstLine, SumsAndLimit, sumsAndLimit, sumsAndLimits, slotLine, slotLines, sheetBytes}
 use Rattle.model.specs.SheetReader.{sheetChoice}
 use Rattle.model.specs.Valid.{ValidBook}
-use Rattle.model.specs.Views.{Accepted, acceptedFor, accepted, shown, runningLoads, numberAndLevel, millLine, sumsAndLimitsOn, supplyView, supplyResult, LinesOnSheet, NothingElse, SupplyCall, viewOf, SameSeen, OtherSeen}
+use Rattle.model.specs.Views.{Accepted, acceptedFor, accepted, runningLoads, numberAndLevel, millLine, sumsAndLimitsOn, supplyView, supplyResult, LinesOnSheet, NothingElse, SupplyCall, viewOf, SameSeen, OtherSeen}
 use Rattle.model.proofs.ListLaws.{every-getD, every-image, length-concat}
 use Rattle.model.proofs.FrameLaws.{length-digits, digits-front, word-below, word-back}
-use Rattle.model.proofs.RefusalLaws.{first-here, first-last, done-same, then-done, number-some}
-use Rattle.model.proofs.AnswerLaws.{writes-same, bytes-left}
+use Rattle.model.proofs.RefusalLaws.{done-same, then-done}
+use Rattle.model.proofs.AnswerLaws.{writes-same, bytes-left, room-left}
 use Rattle.model.proofs.SheetLaws.{length-first, length-slot, choice-only}
 use Rattle.model.proofs.SumLaws.{sum-small, choice-small, choice-few}
 use Rattle.model.proofs.ValidLaws.{book-valid}
-
--- ---- a view and its room
-
-module _ (view : List ℕ) (room : ℕ) where
-  pub view-refused : room < length view → shown view room ≡ refused BufferTooSmall 0
-  unfolding shown
-  view-refused h = ap (λ f. checked 0 f (done (bytesOnly view))) (first-here BufferTooSmall [] (ltb room (length view)) (lt-ltb room (length view) h))
-
-  pub view-fits : length view ≤ room → shown view room ≡ done (bytesOnly view)
-  unfolding shown
-  view-fits h = ap (λ f. checked 0 f (done (bytesOnly view))) (first-last BufferTooSmall (ltb room (length view)) (le-ltb room (length view) h))
-
-  -- where the number is 0, the view is what was written
-  view-left : {before after : List ℕ} {a : Answer} → Writes (shown view room) before after a → a .number ≡ 0 → take (a .bytes) after ≡ view
-  unfolding shown
-  view-left {before} {after} {a} w zero = go (first (roomRule (length view) room ∷ [])) w
-    where
-      go : (f : Finding) → Writes (checked 0 f (done (bytesOnly view))) before after a → take (a .bytes) after ≡ view
-      go Passed w = bytes-left (done (bytesOnly view)) w
-      go (Refused r) w = absurd (number-some r (sym (ap (λ (x : Answer). x .number) (w .answers)) ∙ zero))
 
 -- ---- the mill's view
 
@@ -184,4 +159,4 @@ other-seen x y u v differ e =
         sums-small (z .known .b) (z .known .choice) (k .valid) (k .chosen)
 
     lines : (z : SupplyCall) → z .answer .number ≡ 0 → viewOf z ≡ slotLines (sumsAndLimitsOn (z .known))
-    lines z zero = view-left (slotLines (sumsAndLimitsOn (z .known))) (length (z .before)) (alone z) zero
+    lines z zero = room-left (slotLines (sumsAndLimitsOn (z .known))) (length (z .before)) (alone z) zero

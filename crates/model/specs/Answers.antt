@@ -2,13 +2,13 @@
 -- 01's rules for the sheet buffer hold for the buffer of every new part."
 use Prim.Native.Nat.{ℕ}
 use mathlib.Core.Path.{_≡_}
-use mathlib.Core.List.{List, _++_}
+use mathlib.Core.List.{List, [], _∷_, _++_}
 use lib.Dec.{ltb}
 use lib.ListN.{length, drop}
 use Rattle.model.specs.declared.Answer.{Answer}
 use Rattle.model.specs.declared.Refusal.{Refusal}
 use Rattle.model.specs.declared.Refusal.the-variants.{BufferTooSmall}
-use Rattle.model.specs.Refusals.{Result, refused, done, Rule, _⇒_, numberOf}
+use Rattle.model.specs.Refusals.{Result, refused, done, Rule, _⇒_, first, checked, numberOf}
 
 -- what a call gives that is not refused: the bytes that it writes, a worth and a number of trials
 pub record Output : Type 0 where
@@ -45,3 +45,7 @@ pub record Writes (result : Result Output) (before after : List ℕ) (answer : A
 -- 11: "buffer shorter than the sheet", where so many bytes are due and there is room for so many
 abbrev pub roomRule : ℕ → ℕ → Rule
 roomRule due room = ltb room due ⇒ BufferTooSmall
+
+-- these bytes, with neither worth nor trials, for a buffer with room for so many: 11 where they are longer
+unfoldable pub inRoom : List ℕ → ℕ → Result Output
+inRoom bytes room = checked 0 (first (roomRule (length bytes) room ∷ [])) (done (bytesOnly bytes))

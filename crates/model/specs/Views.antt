@@ -1,13 +1,13 @@
 -- What the mill and the supply company see of a sheet (document 02, M-103): "The sheet goes to the mill's own screen and to the supply company."
 use Prim.Native.Nat.{ℕ, _+_, _*_}
 use mathlib.Core.Path.{_≡_}
-use mathlib.Core.List.{List, [], _∷_, _++_, map}
+use mathlib.Core.List.{List, _++_, map}
 use lib.ListN.{length, take, drop}
 use Rattle.model.specs.declared.Answer.{Answer}
 use Rattle.model.specs.Lists.{uptoFrom, keep, concat}
 use Rattle.model.specs.Frames.{digits}
-use Rattle.model.specs.Refusals.{Result, done, first, checked, andThen}
-use Rattle.model.specs.Answers.{Output, bytesOnly, Writes, roomRule}
+use Rattle.model.specs.Refusals.{Result, done, andThen}
+use Rattle.model.specs.Answers.{Output, Writes, inRoom}
 use Rattle.model.specs.Book.{Problem, readBook}
 use Rattle.model.specs.Choice.{Choice, levelOn, runningOn, worthOf}
 use Rattle.model.specs.Sheet.{lf, SumsAndLimit, sumsAndLimits, slotLines}
@@ -25,11 +25,7 @@ acceptedFor sheet b = andThen (sheetChoice sheet b) (λ c. done (record { b = b;
 unfoldable pub accepted : List ℕ → List ℕ → Result Accepted
 accepted book sheet = andThen (readBook book) (acceptedFor sheet)
 
--- "11 comes last, for a view longer than the buffer", which has room for so many bytes
-unfoldable pub shown : List ℕ → ℕ → Result Output
-shown view room = checked 0 (first (roomRule (length view) room ∷ [])) (done (bytesOnly view))
-
--- ---- the mill's view
+-- ---- the mill's view; of both views "11 comes last, for a view longer than the buffer"
 
 -- the loads that run, "lowest first"
 unfoldable pub runningLoads : Choice → List ℕ
@@ -46,7 +42,7 @@ millLine c = digits 2 9 ++ digits 8 (worthOf c) ++ concat (map (λ k. numberAndL
 
 -- the mill's view of a book and a sheet
 unfoldable pub millResult : List ℕ → List ℕ → ℕ → Result Output
-millResult book sheet room = andThen (accepted book sheet) (λ x. shown (millLine (x .choice)) room)
+millResult book sheet room = andThen (accepted book sheet) (λ x. inRoom (millLine (x .choice)) room)
 
 -- ---- the supply company's view
 
@@ -56,7 +52,7 @@ sumsAndLimitsOn x = sumsAndLimits (x .b) (x .choice)
 
 -- "only the `05` lines", 23 bytes a slot (proofs/SheetLaws, `length-slot-lines`): a function of the sums, the limits and the buffer's length alone
 unfoldable pub supplyView : List SumsAndLimit → ℕ → Result Output
-supplyView sums room = shown (slotLines sums) room
+supplyView sums room = inRoom (slotLines sums) room
 
 -- the supply company's view of a book and a sheet
 unfoldable pub supplyResult : List ℕ → List ℕ → ℕ → Result Output

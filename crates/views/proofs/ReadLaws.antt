@@ -1,25 +1,21 @@
 -- What is made of a book and a sheet that were read, and of a view and its room.
 -- Assumes nothing.
-use Prim.Native.Nat.{ℕ, _≤_, _<_}
+use Prim.Native.Nat.{ℕ}
 use mathlib.Core.Path.{_≡_, refl, sym, ap, _∙_}
 use mathlib.Core.Bool.{true, false}
 use mathlib.Core.List.{List}
-use lib.ListN.{length}
 use Rattle.model.specs.declared.Answer.{Answer}
 use Rattle.model.specs.declared.Reading.{Reading}
-use Rattle.model.specs.declared.Refusal.the-variants.{ForeignSheet, BufferTooSmall}
+use Rattle.model.specs.declared.Refusal.the-variants.{ForeignSheet}
 use Rattle.model.specs.Refusals.{Result, done, andThen}
-use Rattle.model.specs.Answers.{Output, successAnswer, refusalAnswer, Writes}
+use Rattle.model.specs.Answers.{Output, refusalAnswer, Writes}
 use Rattle.model.specs.Book.{Problem, readBook}
 use Rattle.model.specs.Choice.{Choice}
 use Rattle.model.specs.Values.{readingOf, choiceOf, problemOf}
-use Rattle.model.specs.Views.{Accepted, acceptedFor, accepted, shown}
-use Rattle.model.proofs.AnswerLaws.{writes-same, refused-writes}
+use Rattle.model.specs.Views.{Accepted, acceptedFor, accepted}
+use Rattle.model.proofs.AnswerLaws.{refused-writes}
 use Rattle.model.proofs.ReadingLaws.{reading-held, reading-done, refusal-passed-on}
 use Rattle.model.proofs.RefusalLaws.{number-some}
-use Rattle.model.proofs.ViewLaws.{view-refused, view-fits}
-use Rattle.hex.specs.Written.{written}
-use Rattle.hex.proofs.WrittenLaws.{written-start}
 use Rattle.chosen.specs.declared.SheetPicks.{SheetPicks}
 use Rattle.chosen.specs.Chosen.{ChoiceOn}
 use Rattle.chosen.proofs.SheetChoiceLaws.{then-foreign, then-read}
@@ -79,15 +75,3 @@ module _ (book sheet : List ℕ) (v : SheetReading) (f : Accepted → Result Out
   pub accepted-then : Accepts book sheet v
       → f (record { b = problemOf (v .book); choice = choiceOf (problemOf (v .book)) (v .picks) }) ≡ andThen (accepted book sheet) f
   accepted-then a = sym (ap (λ x. andThen x f) (a .is))
-
--- ---- a view in a buffer
-
-module _ (view l : List ℕ) where
-  pub shown-refused : (a : Answer) → a ≡ refusalAnswer BufferTooSmall 0 → length l < length view → Writes (shown view (length l)) l l a
-  shown-refused a e h = refused-writes (shown view (length l)) BufferTooSmall 0 l a e (view-refused view (length l) h)
-
-  pub shown-writes : (l′ : List ℕ) (n : ℕ) (a : Answer) → l′ ≡ written l 0 view → n ≡ length view → a ≡ successAnswer n 0 0 → length view ≤ length l
-      → Writes (shown view (length l)) l l′ a
-  shown-writes l′ n a e q s h =
-      writes-same (sym (view-fits view (length l) h))
-      (record { answers = s ∙ ap (λ m. successAnswer m 0 0) q; leaves = e ∙ written-start l view })

@@ -6,11 +6,11 @@ use model::Refusal;
 ghost use mathlib.Core.Path.{_≡_};
 ghost use Prim.Native.Nat.{suc, _+_, _≤_, _<_};
 ghost use lib.ListN.{length};
-ghost use Rattle.model.specs.Answers.{Writes};
+ghost use Rattle.model.specs.Answers.{Writes, inRoom};
 ghost use Rattle.model.specs.Bounds.{mostLoads};
 ghost use Rattle.model.specs.Sheet.{sumsAndLimits};
 ghost use Rattle.model.specs.Values.{Held, Picked, choiceOf, problemOf};
-ghost use Rattle.model.specs.Views.{shown, millLine, supplyView, millResult, supplyResult, NothingElse};
+ghost use Rattle.model.specs.Views.{millLine, supplyView, millResult, supplyResult, NothingElse};
 ghost use Rattle.hex.specs.Written.{written};
 ghost use Rattle.views.specs.Read.{Read};
 ghost use Rattle.views.specs.MillLine.{loadBytes, loadsBytes, millBytes};
@@ -117,7 +117,7 @@ fn write_line(view: &mut [u8], worth: u64, picks: [usize; Book::LOADS], count: u
 fn mill_of(book: Book, picks: [usize; Book::LOADS], view: &mut [u8]) -> Answer
     requires { ⌜ Held book ⌝ }
     requires { ⌜ Picked (problemOf book) picks ⌝ }
-    ensures { λ r. ⌜ Writes (shown (millLine (choiceOf (problemOf book) picks)) (length (now (view .entry)))) (now (view .entry)) (now (view .exit)) r ⌝ }
+    ensures { λ r. ⌜ Writes (inRoom (millLine (choiceOf (problemOf book) picks)) (length (now (view .entry)))) (now (view .entry)) (now (view .exit)) r ⌝ }
 {
     let count = book.count;
     let bytes = 11 + loads_length(picks, count);

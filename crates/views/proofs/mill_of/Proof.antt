@@ -7,7 +7,7 @@ use Rattle.model.specs.Views.{millLine}
 use Rattle.model.proofs.HeldLaws.{held-valid, held-count, held-few}
 use Rattle.hex.specs.Written.{written}
 use Rattle.views.proofs.MillLaws.{loads-most, line-is, mill-long}
-use Rattle.views.proofs.ReadLaws.{shown-refused, shown-writes}
+use Rattle.hex.proofs.RoomLaws.{without-room, with-room}
 use Rattle.views.proofs.mill_of.Statement.{statement}
 use Rattle.views.proofs.mill_of.Tie as tie
 
@@ -27,7 +27,7 @@ returns c =
     let s = c .before .before .before .before in
     let a = s .args in
     let b = problemOf (a .book) in
-    shown-refused (millLine (choiceOf b (a .picks))) (a .view .now) _ (c .refusal .ensures)
+    without-room (millLine (choiceOf b (a .picks))) (a .view .now) _ (c .refusal .ensures)
     (omega (
       arith,
       c .before .if1 .taken,
@@ -57,7 +57,7 @@ returns-2 c =
     let n = c .before .before .before .before .before .before .before .loads-length in
     let worth = c .before .before .before .before .before .worth-of in
     let long = mill-long b (held-valid (a .book) (s .pre .0)) (a .picks) (s .pre .1) (a .book .count) (held-count (a .book) (s .pre .0)) in
-    shown-writes (millLine (choiceOf b (a .picks))) (a .view .now) _ _ _
+    with-room (millLine (choiceOf b (a .picks))) (a .view .now) _ _ _
     (c .before .before .before .write-line .ensures
     ∙ ap (written (a .view .now) 0)
     (line-is b (held-valid (a .book) (s .pre .0)) (a .picks) (s .pre .1) (worth .result) (a .book .count) (worth .ensures) (held-count (a .book) (s .pre .0))))

@@ -1,7 +1,8 @@
 -- `views::mill_view` meets its contract: a refusal of the book or the sheet is passed on, and else the choice is shown. Assumes nothing.
 use lib.ListN.{length}
 use borrow.Author.Needs.{needs}
-use Rattle.model.specs.Views.{shown, millLine, millResult}
+use Rattle.model.specs.Answers.{inRoom}
+use Rattle.model.specs.Views.{millLine, millResult}
 use Rattle.model.proofs.AnswerLaws.{writes-same}
 use Rattle.views.proofs.ReadLaws.{refused-view, accepted-then}
 use Rattle.views.proofs.mill_view.Statement.{statement}
@@ -15,7 +16,7 @@ unfolding millResult
 returns c =
     let a = c .before .before .before .before .before .before .before .args in
     let r = c .before .before .before .read in
-    refused-view (a .book .now) (a .sheet .now) (r .result) (λ x. shown (millLine (x .choice)) (length (a .view .now)))
+    refused-view (a .book .now) (a .sheet .now) (r .result) (λ x. inRoom (millLine (x .choice)) (length (a .view .now)))
     (r .ensures .refuses (c .if1 .taken)) (a .view .now)
 
 mill-of-requires : tie.Need-mill-of-requires
@@ -32,7 +33,7 @@ returns-2 c =
     let a = c .before .before .before .before .before .before .before .before .before .before .before .before .before .args in
     let r = c .before .before .before .before .before .before .before .before .before .read in
     writes-same
-    (accepted-then (a .book .now) (a .sheet .now) (r .result) (λ x. shown (millLine (x .choice)) (length (a .view .now)))
+    (accepted-then (a .book .now) (a .sheet .now) (r .result) (λ x. inRoom (millLine (x .choice)) (length (a .view .now)))
     (r .ensures .accepts (c .before .before .before .before .before .before .if1 .left)))
     (c .before .before .mill-of .ensures)
 

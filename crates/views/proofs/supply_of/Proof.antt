@@ -9,7 +9,7 @@ use Rattle.model.proofs.HeldLaws.{held-few, held-slots, held-four}
 use Rattle.model.proofs.SheetLaws.{length-slot-lines}
 use Rattle.hex.specs.Written.{written}
 use Rattle.sheet.proofs.WriteLaws.{reactive-room, slots-lines}
-use Rattle.views.proofs.ReadLaws.{shown-refused, shown-writes}
+use Rattle.hex.proofs.RoomLaws.{without-room, with-room}
 use Rattle.views.proofs.supply_of.Statement.{statement}
 use Rattle.views.proofs.supply_of.Tie as tie
 
@@ -27,7 +27,7 @@ returns c =
     let s = c .before .before .before .before in
     let a = s .args in
     let b = problemOf (a .book) in
-    shown-refused (slotLines (sumsAndLimits b (choiceOf b (a .picks)))) (a .view .now) _ (c .refusal .ensures)
+    without-room (slotLines (sumsAndLimits b (choiceOf b (a .picks)))) (a .view .now) _ (c .refusal .ensures)
     (omega (arith, c .before .if1 .taken, length-slot-lines b (choiceOf b (a .picks)), held-slots (a .book) (s .pre .0)))
 
 sums-of-requires : tie.Need-sums-of-requires
@@ -56,7 +56,7 @@ returns-2 c =
     let sums = c .before .before .before .before .before .before .before .before .sums-of in
     let long = length-slot-lines b (choiceOf b (a .picks)) in
     let slots = held-slots (a .book) (s .pre .0) in
-    shown-writes (slotLines (sumsAndLimits b (choiceOf b (a .picks)))) (a .view .now) _ _ _
+    with-room (slotLines (sumsAndLimits b (choiceOf b (a .picks)))) (a .view .now) _ _ _
     (c .before .before .before .write-slots .ensures ∙ ap (written (a .view .now) 0) (slots-lines (a .book) (s .pre .0) (a .picks) (s .pre .1) (sums .result) (sums .ensures)))
     (omega (arith, long, slots)) (c .success .ensures) (omega (arith, long, slots, c .before .before .before .before .before .before .before .before .before .if1 .left))
 
