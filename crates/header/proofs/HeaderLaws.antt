@@ -29,14 +29,6 @@ none-out false u e f = e
 
 -- ---- the ratio, by how many digits it has
 
-pub ratio-few : (line : List ℕ) → ratioDigits line ≤ 2
-unfolding ratioDigits
-ratio-few line = go (statesRatio line)
-  where
-    go : (b : Bool) → cond b 2 0 ≤ 2
-    go true = omega arith
-    go false = omega arith
-
 pub ratio-unstated : (line : List ℕ) → ratioDigits line < 1 → ratioIn line ≡ 1
 unfolding ratioDigits ratioIn
 ratio-unstated line = go (statesRatio line)

@@ -25,6 +25,7 @@ use Rattle.model.proofs.IntegerLaws.{split, sub-neg}
 use Rattle.model.proofs.RefusalLaws.{first-passed}
 use Rattle.model.proofs.UptoLaws.{length-upto, getD-upto, from-is, upto-is}
 use Rattle.model.proofs.NumberLaws.{none-found, numbered-of}
+use Rattle.model.proofs.LengthLaws.{pairs-most}
 use Rattle.model.proofs.ValidLaws.{options-numbered, options-length, settings-by, sized-settings}
 use Rattle.hex.proofs.RangeLaws.{in-range}
 use Rattle.loadline.specs.LoadLine.{LoadLine}
@@ -44,15 +45,6 @@ load-line t r line h e =
     }
 
 -- ---- places on a load line
-
--- no line carries more pairs for standing than there are slots
-pub pairs-most : (t : ℕ) (line : List ℕ) → standingPairs t line ≤ t
-unfolding standingPairs
-pairs-most t line = go (eqb (field line 0 2) 6)
-  where
-    go : (b : Bool) → cond b t 0 ≤ t
-    go true = omega arith
-    go false = omega arith
 
 pairs-few : (t pairs o : ℕ) (line : List ℕ) → LoadLine t pairs o line → pairs ≤ t
 pairs-few t pairs o line h = omega (arith, h .carried, pairs-most t line)

@@ -1,5 +1,5 @@
--- The choices of some loads and one more; the worth, code, sums and grid pairs of a choice with one more setting; and what each setting of a
--- choice has.
+-- The choices of some loads and one more; worth and sums of one choice before another; the worth, code, sums and grid pairs of a choice with one more setting;
+-- and what each setting of a choice has.
 -- Assumes nothing.
 use mathlib.Core.Path.{_≡_, refl, sym, ap, ap₂, _∙_}
 use mathlib.Core.List.{List, [], _∷_, _++_, map, map-map, map-append, append-assoc}
@@ -72,11 +72,22 @@ pub choices-sized : (loads : List Settings) → Sized (length loads) (choices lo
 choices-sized [] = (refl, tt)
 choices-sized (vs ∷ loads) = sized-with (length loads) vs (choices loads) (choices-sized loads)
 
+-- ---- a choice of some loads before one of others
+
+pub choice-join : (loads others : List Settings) (c d : Choice) → IsChoice loads c → IsChoice others d → IsChoice (loads ++ others) (c ++ d)
+choice-join [] others [] d h k = k
+choice-join [] others (v ∷ c) d h k = absurd h
+choice-join (vs ∷ loads) others [] d h k = absurd h
+choice-join (vs ∷ loads) others (v ∷ c) d h k = (h .0, choice-join loads others c d (h .1) k)
+
+pub worth-join : (c d : Choice) → worthOf (c ++ d) ≡ worthOf c + worthOf d
+worth-join [] d = omega arith
+worth-join (v ∷ c) d = omega (arith, worth-join c d)
+
 -- ---- a choice with one more setting
 
 pub worth-last : (c : Choice) (v : Setting) → worthOf (snoc v c) ≡ worthOf c + v .worth
-worth-last [] v = add-comm (v .worth) 0
-worth-last (u ∷ c) v = ap (λ x. u .worth + x) (worth-last c v) ∙ sym (add-assoc (u .worth) (worthOf c) (v .worth))
+worth-last c v = omega (arith, worth-join c (v ∷ []))
 
 -- the code is the sum of c × 4^(k - 1)
 pub code-last : (c : Choice) (v : Setting) → codeOf (snoc v c) ≡ codeOf c + v .number * 4 ^ length c
@@ -94,10 +105,12 @@ plus-comm x y = λ i. record { p = add-comm (x .p) (y .p) i; q = +ℤ-comm (x .q
 pub plus-none : (x : Power) → plus x noPower ≡ x
 plus-none x = λ i. record { p = add-zero (x .p) i; q = +ℤ-idr (x .q) i }
 
+pub sum-join : (place : ℕ) (c d : Choice) → sumIn place (c ++ d) ≡ plus (sumIn place c) (sumIn place d)
+sum-join place [] d = sym (plus-none (sumIn place d)) ∙ plus-comm (sumIn place d) noPower
+sum-join place (v ∷ c) d = ap (plus (powerIn place v)) (sum-join place c d) ∙ sym (plus-assoc (powerIn place v) (sumIn place c) (sumIn place d))
+
 pub sum-last : (place : ℕ) (c : Choice) (v : Setting) → sumIn place (snoc v c) ≡ plus (sumIn place c) (powerIn place v)
-sum-last place [] v = plus-comm (powerIn place v) noPower
-sum-last place (u ∷ c) v =
-    ap (plus (powerIn place u)) (sum-last place c v) ∙ sym (plus-assoc (powerIn place u) (sumIn place c) (powerIn place v))
+sum-last place c v = sum-join place c (v ∷ []) ∙ ap (plus (sumIn place c)) (plus-none (powerIn place v))
 
 pub grid-last : (s : Slot) (c : Choice) (v : Setting) → gridIn s (snoc v c) ≡ plus (gridIn s c) (settingGrid s v)
 grid-last s [] v = plus-comm (settingGrid s v) noPower

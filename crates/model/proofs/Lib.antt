@@ -44,4 +44,8 @@ pub mod RatioLaws
 pub mod ComparedLaws
 pub mod StrictLaws
 pub mod StrictGivenLaws
+pub mod LengthLaws
+pub mod HeaderLaws
+pub mod PoolLaws
+pub mod JointLaws
 pub mod AcceptanceTable

@@ -10,7 +10,7 @@ use native.Mathlib.Numerals.{add-one}
 use native.Mathlib.Omega.{arith}
 use lib.Dec.{T, leb, eqb}
 use lib.ListN.{length, getD, take, drop, set, length-append}
-use borrow.Author.Tests.{leb-true, eqb-true, eq-eqb}
+use borrow.Author.Tests.{leb-true, le-leb, eqb-true, eq-eqb}
 use Rattle.model.specs.Lists.{within, sumBelow, Mem, Every, keep, keepIf, all, any, concat, sameLists}
 
 pub both : (t u : Bool) → T (t && u) → T t × T u
@@ -53,6 +53,9 @@ pub within-is : (lo hi x : ℕ) → within lo hi x ≡ true → (lo ≤ x) × (x
 within-is lo hi x e =
     let h : (leb lo x ≡ true) × (leb x hi ≡ true) = both-true (leb lo x) (leb x hi) e in
     (leb-true lo x (h .0), leb-true x hi (h .1))
+
+pub is-within : (lo hi x : ℕ) → lo ≤ x → x ≤ hi → within lo hi x ≡ true
+is-within lo hi x a b = ap₂ _&&_ (le-leb lo x a) (le-leb x hi b)
 
 pub bool-same : (t u : Bool) → (T t → T u) → (T u → T t) → t ≡ u
 bool-same true true f g = refl
@@ -208,6 +211,10 @@ module _ {A : Type 0} where
   any-false p (x ∷ xs) e =
       let h : (p x ≡ false) × (any p xs ≡ false) = either-false (p x) (any p xs) e in
       (h .0, any-false p xs (h .1))
+
+  pub any-none : (p : A → Bool) (xs : List A) → Every (λ x. p x ≡ false) xs → any p xs ≡ false
+  any-none p [] h = refl
+  any-none p (x ∷ xs) h = ap₂ _||_ (h .0) (any-none p xs (h .1))
 
 module _ {A B : Type 0} where
   -- two functions with the same values

@@ -47,7 +47,7 @@ still-line : (t : ℕ) (line : List ℕ) → field line 0 2 ≡ 2 → Still (set
 still-line t line e = subst Still (sym (plain-settings t line e)) (still-standing t line e)
 
 still-loads : (t r left number : ℕ) (bytes : List ℕ) (loads : List Settings) → readLoads t r left number bytes ≡ done loads → Plain left bytes → Every Still loads
-still-loads t r zero number bytes loads e p = subst (Every Still) (loads-none t r number bytes loads e) tt
+still-loads t r zero number bytes loads e p = subst (Every Still) (loads-none t r number bytes loads e .1) tt
 still-loads t r (suc left) number bytes loads e p =
     let h : LoadsRead t r left number bytes loads = loads-read t r left number bytes loads e in
     subst (Every Still) (h .same) (still-line t (lineOf bytes) (p .0), still-loads t r left (suc number) (afterLine bytes) (h .others) (h .rest) (p .1))

@@ -4,8 +4,8 @@ use mathlib.Core.Path.{_≡_, refl, sym, ap, ap₂, _∙_, subst}
 use mathlib.Core.Bool.{true, not}
 use mathlib.Core.List.{List, [], _∷_, _++_, append-assoc, append-nil}
 use mathlib.Core.Option.{Option, none, some, Option·none-ne-some, Option·some-injective}
-use Prim.Native.Nat.{ℕ, zero, suc, _+_, _*_, _^_, _<_}
-use native.Mathlib.Nat.{add-zero, zero-add, le-of-suc-le-suc}
+use Prim.Native.Nat.{ℕ, suc, _+_, _*_, _^_, _<_}
+use native.Mathlib.Nat.{add-zero, zero-add}
 use native.Mathlib.Omega.{arith}
 use lib.Dec.{eqb}
 use lib.ListN.{length, length-append, getD, drop}
@@ -21,9 +21,9 @@ use Rattle.model.specs.Choice.{Choice, IsChoice, worthOf, codeOf, noSett
 use Rattle.model.specs.Sheet.{lf, numbersOf, firstLine, SumsAndLimit, sumsAndLimit, sumsAndLimits, slotLine, slotLines, sheetBytes, sheetLength}
 use Rattle.model.specs.SheetReader.{foreignRules, SheetOf, SheetData, consBoth, choiceFrom, trialsOn, ifBelongs, sheetChoice, sheetData, readerResult}
 use Rattle.model.specs.Valid.{Labelled}
-use Rattle.model.proofs.ListLaws.{length-concat, same-eq, same-refl}
-use Rattle.model.proofs.UptoLaws.{length-upto}
-use Rattle.model.proofs.FrameLaws.{length-digits, field-back, field-below}
+use Rattle.model.proofs.ListLaws.{every-imp, length-concat, same-eq, same-refl}
+use Rattle.model.proofs.UptoLaws.{suc-across, length-upto}
+use Rattle.model.proofs.FrameLaws.{length-digits, field-back, digits-next, fields-back, field-below}
 use Rattle.model.proofs.RefusalLaws.{refused-done, then-done, done-same, checked-done, first-passed, first-none}
 use Rattle.model.proofs.NumberLaws.{found-mem, member-found, numbers-small}
 use Rattle.model.proofs.ValidLaws.{book-valid}
@@ -64,44 +64,19 @@ sheet-starts : (b : Problem) (c : Choice) (t : ℕ) (past : List ℕ) → sheetB
 unfolding sheetBytes firstLine
 sheet-starts b c t past = simp append-assoc
 
-two-on : (i k : ℕ) → 18 + 2 * (i + suc k) ≡ 18 + 2 * (suc i + k)
-two-on i k = omega arith
-
-two-more : (i : ℕ) → 18 + 2 * suc i ≡ 18 + 2 * i + 2
-two-more i = omega arith
-
-numbers-at : (bytes rest : List ℕ) (i : ℕ) (c : Choice) (u : Setting) → Every (λ v. v .number < 4) c → drop (18 + 2 * i) bytes ≡ numbersOf c ++ rest
-    → (k : ℕ) → k < length c → field bytes (18 + 2 * (i + k)) 2 ≡ getD c k u .number
-unfolding numbersOf
-numbers-at bytes rest i [] u h e k l = absurd (omega arith)
-numbers-at bytes rest i (v ∷ c) u h e zero l =
-    ap (λ j. field bytes (18 + 2 * j) 2) (add-zero i)
-    ∙ field-back bytes (numbersOf c ++ rest) (18 + 2 * i) 2 (v .number) (e ∙ append-assoc (digits 2 (v .number)) (numbersOf c) rest) (omega (arith, h .0))
-numbers-at bytes rest i (v ∷ c) u h e (suc k) l =
-    ap (λ j. field bytes j 2) (two-on i k)
-    ∙ numbers-at bytes rest (suc i) c u (h .1)
-    (ap (λ j. drop j bytes) (two-more i)
-    ∙ sym (drop-drop 2 (18 + 2 * i) bytes)
-    ∙ ap (drop 2) (e ∙ append-assoc (digits 2 (v .number)) (numbersOf c) rest)
-    ∙ drop-at (digits 2 (v .number)) (numbersOf c ++ rest) 2 (length-digits 2 (v .number)))
-    k (le-of-suc-le-suc l)
-
 module _ (b : Problem) (c : Choice) (t : ℕ) (bytes past : List ℕ) (e : bytes ≡ sheetBytes b c t ++ past) where
   rest : List ℕ
   rest = lf ++ (slotLines (sumsAndLimits b c) ++ past)
 
   at-worth : drop 2 bytes ≡ digits 8 (worthOf c) ++ (digits 8 t ++ (numbersOf c ++ rest))
   unfolding rest
-  at-worth = ap (drop 2) (e ∙ sheet-starts b c t past) ∙ drop-at (digits 2 4) (digits 8 (worthOf c) ++ (digits 8 t ++ (numbersOf c ++ rest))) 2 (length-digits 2 4)
+  at-worth = digits-next bytes (digits 8 (worthOf c) ++ (digits 8 t ++ (numbersOf c ++ rest))) 0 2 4 (e ∙ sheet-starts b c t past)
 
   at-trials : drop 10 bytes ≡ digits 8 t ++ (numbersOf c ++ rest)
-  at-trials =
-      sym (drop-drop 8 2 bytes)
-      ∙ ap (drop 8) at-worth
-      ∙ drop-at (digits 8 (worthOf c)) (digits 8 t ++ (numbersOf c ++ rest)) 8 (length-digits 8 (worthOf c))
+  at-trials = digits-next bytes (digits 8 t ++ (numbersOf c ++ rest)) 2 8 (worthOf c) at-worth
 
   at-numbers : drop 18 bytes ≡ numbersOf c ++ rest
-  at-numbers = sym (drop-drop 8 10 bytes) ∙ ap (drop 8) at-trials ∙ drop-at (digits 8 t) (numbersOf c ++ rest) 8 (length-digits 8 t)
+  at-numbers = digits-next bytes (numbersOf c ++ rest) 10 8 t at-trials
 
   pub worth-on : worthOf c < 16 ^ 8 → field bytes 2 8 ≡ worthOf c
   worth-on h = field-back bytes (digits 8 t ++ (numbersOf c ++ rest)) 2 8 (worthOf c) at-worth h
@@ -110,7 +85,10 @@ module _ (b : Problem) (c : Choice) (t : ℕ) (bytes past : List ℕ) (e : bytes
   trials-on h = field-back bytes (numbersOf c ++ rest) 10 8 t at-trials h
 
   pub numbers-on : Every (λ v. v .number < 4) c → (u : Setting) (k : ℕ) → k < length c → field bytes (18 + 2 * k) 2 ≡ getD c k u .number
-  numbers-on h u k l = ap (λ j. field bytes (18 + 2 * j) 2) (sym (zero-add k)) ∙ numbers-at bytes rest 0 c u h at-numbers k l
+  unfolding numbersOf
+  numbers-on h u k l =
+      ap (λ j. field bytes (18 + 2 * j) 2) (sym (zero-add k))
+      ∙ fields-back (λ v. v .number) 2 18 bytes rest u 0 c (every-imp (λ v. v .number < 4) (λ v. v .number < 16 ^ 2) (λ v m. omega (arith, m)) c h) at-numbers k l
 
 -- ---- the choice on a sheet
 
@@ -136,7 +114,7 @@ choice-back bytes k (vs ∷ loads) (v ∷ c) m h e =
     (ap (λ n. settingNumbered n vs) (ap (λ i. field bytes (18 + 2 * i) 2) (sym (add-zero k)) ∙ e 0 (omega arith))
     ∙ member-found vs (h .0) v (m .0))
     (choice-back bytes (suc k) loads c (m .1) (h .1)
-    (λ j l. ap (λ i. field bytes i 2) (sym (two-on k j)) ∙ e (suc j) (omega arith)))
+    (λ j l. ap (λ i. field bytes (18 + 2 * i) 2) (sym (suc-across k j)) ∙ e (suc j) (omega arith)))
 
 -- ---- the sheet reader
 

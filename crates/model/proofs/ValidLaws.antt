@@ -1,19 +1,19 @@
 -- What a book that was read is known to have: its counts and sizes, and |Q| ≤ r × P in every setting; and that no refusal of the reader has a number above 8.
 -- Assumes nothing.
 use mathlib.Core.Path.{_≡_, refl, sym, ap, _∙_, subst}
-use mathlib.Core.Bool.{Bool, false, true, cond, not, _&&_}
+use mathlib.Core.Bool.{Bool, false, true, cond, not, _&&_, false≢true}
 use mathlib.Core.List.{List, [], _∷_, map}
 use Prim.Native.Nat.{ℕ, zero, suc, _+_, _*_, _<_, _≤_}
 use native.Mathlib.Omega.{arith}
 use lib.Dec.{ltb}
 use lib.IntN.{natAbs}
 use lib.ListN.{length, getD}
-use borrow.Author.Tests.{ltb-false, not-false}
+use borrow.Author.Tests.{lt-ltb, ltb-true, ltb-false, not-false}
 use Rattle.model.specs.declared.Finding.the-variants.{Passed}
-use Rattle.model.specs.Lists.{within, uptoFrom, upto, keepIf, any, Every}
+use Rattle.model.specs.Lists.{within, uptoFrom, upto, keepIf, any, isEmpty, Every}
 use Rattle.model.specs.Bounds.{mostSlots, mostLoads, mostFineness, mostRatio, mostSheet}
-use Rattle.model.specs.Frames.{field, lineOf, afterLine}
-use Rattle.model.specs.Refusals.{Result, done, first, andThen}
+use Rattle.model.specs.Frames.{field, lineLength, lineOf, afterLine}
+use Rattle.model.specs.Refusals.{Result, done, first, checked, andThen}
 use Rattle.model.specs.Book.{Power, noPower, Setting, Settings, Problem, slotCount, loadCount, finenessIn, ratioDigits, ratioIn, problem, optionCount, standingPairs, mustRun, optionStart, powerAt, optionOn, options, standingPower, standing, settings, lineRule, headerRules, reactiveExceeds, someExceeds, loadRules, endRules, readLoads, readBook}
 use Rattle.model.specs.Choice.{leastOf}
 use Rattle.model.specs.MustRun.{leastNumber}
@@ -22,7 +22,7 @@ use Rattle.model.specs.Valid.{SettingKept, Numbered, Labelled, SettingSm
 use Rattle.model.proofs.ListLaws.{both-true, within-is, every-at, every-imp, every-image, every-getD, any-false}
 use Rattle.model.proofs.UptoLaws.{length-upto}
 use Rattle.model.proofs.FrameLaws.{field-below, signed-small}
-use Rattle.model.proofs.RefusalLaws.{done-same, checked-done, then-done, NoneApplies, first-passed, RulesMost, NumberMost, checked-most, then-most}
+use Rattle.model.proofs.RefusalLaws.{done-same, checked-done, then-done, NoneApplies, first-passed, first-none, RulesMost, NumberMost, checked-most, then-most}
 use Rattle.model.proofs.NumberLaws.{numbered-least, labelled-from}
 
 -- ---- the settings that a line gives
@@ -137,8 +137,15 @@ good-more n t r line loads rules g =
       small = (small-settings t line, g .small);
     }
 
--- how the loads that were read came from the lines: none of the rules applies to the first, and the others are read from what is after it
+has-line : (bytes : List ℕ) → lineRule bytes .applies ≡ false → lineLength bytes < length bytes
+has-line bytes e = ltb-true (lineLength bytes) (length bytes) (not-false (ltb (lineLength bytes) (length bytes)) e)
+
+line-due : (bytes : List ℕ) → lineLength bytes < length bytes → lineRule bytes .applies ≡ false
+line-due bytes h = ap not (lt-ltb (lineLength bytes) (length bytes) h)
+
+-- how the loads that were read came from the lines: there is a first, none of the rules applies to it, and the others are read from what is after it
 pub record LoadsRead (t r left number : ℕ) (bytes : List ℕ) (loads : List Settings) : Type 0 where
+  pub ends : lineLength bytes < length bytes
   pub rules : NoneApplies (loadRules t r (lineOf bytes))
   pub others : List Settings
   pub rest : readLoads t r left (suc number) (afterLine bytes) ≡ done others
@@ -153,20 +160,39 @@ loads-read t r left number bytes loads e =
     let c : (first (lineRule bytes ∷ loadRules t r (lineOf bytes)) ≡ Passed) × (andThen rest more ≡ done loads)
     = checked-done number (first (lineRule bytes ∷ loadRules t r (lineOf bytes))) (andThen rest more) loads e in
     let d : (ls : List Settings) × (rest ≡ done ls) × (more ls ≡ done loads) = then-done rest more loads (c .1) in
+    let none : NoneApplies (lineRule bytes ∷ loadRules t r (lineOf bytes)) = first-passed (lineRule bytes ∷ loadRules t r (lineOf bytes)) (c .0) in
     record {
-      rules = first-passed (lineRule bytes ∷ loadRules t r (lineOf bytes)) (c .0) .1;
+      ends = has-line bytes (none .0);
+      rules = none .1;
       others = d .0;
       rest = d .1;
       same = done-same (settings t (lineOf bytes) ∷ d .0) loads (d .2);
     }
 
--- where no line is left there is no load
-pub loads-none : (t r number : ℕ) (bytes : List ℕ) (loads : List Settings) → readLoads t r 0 number bytes ≡ done loads → [] ≡ loads
+-- and the other way round
+pub loads-back : (t r left number : ℕ) (bytes : List ℕ) (loads : List Settings) → LoadsRead t r left number bytes loads
+    → readLoads t r (suc left) number bytes ≡ done loads
 unfolding readLoads
-loads-none t r number bytes loads e = done-same [] loads (checked-done number (first (endRules bytes)) (done []) loads e .1)
+loads-back t r left number bytes loads h =
+    let rest : Result (List Settings) = readLoads t r left (suc number) (afterLine bytes) in
+    let more : List Settings → Result (List Settings) = λ ls. done (settings t (lineOf bytes) ∷ ls) in
+    ap (λ f. checked number f (andThen rest more)) (first-none (lineRule bytes ∷ loadRules t r (lineOf bytes)) (line-due bytes (h .ends), h .rules))
+    ∙ ap (λ x. andThen x more) (h .rest)
+    ∙ ap (λ ls. done ls) (h .same)
+
+-- where no line is left there is no load, and no byte
+empty-is : (bytes : List ℕ) → not (isEmpty bytes) ≡ false → [] ≡ bytes
+empty-is [] e = refl
+empty-is (b ∷ bs) e = absurd (false≢true (sym e))
+
+pub loads-none : (t r number : ℕ) (bytes : List ℕ) (loads : List Settings) → readLoads t r 0 number bytes ≡ done loads → ([] ≡ bytes) × ([] ≡ loads)
+unfolding readLoads
+loads-none t r number bytes loads e =
+    let c : (first (endRules bytes) ≡ Passed) × (Path (Result (List Settings)) (done []) (done loads)) = checked-done number (first (endRules bytes)) (done []) loads e in
+    (empty-is bytes (first-passed (endRules bytes) (c .0) .0), done-same [] loads (c .1))
 
 pub loads-valid : (t r left number : ℕ) (bytes : List ℕ) (loads : List Settings) → readLoads t r left number bytes ≡ done loads → ValidLoads left t r loads
-loads-valid t r zero number bytes loads e = subst (ValidLoads 0 t r) (loads-none t r number bytes loads e) (good-none t r)
+loads-valid t r zero number bytes loads e = subst (ValidLoads 0 t r) (loads-none t r number bytes loads e .1) (good-none t r)
 loads-valid t r (suc left) number bytes loads e =
     let h : LoadsRead t r left number bytes loads = loads-read t r left number bytes loads e in
     subst (ValidLoads (suc left) t r) (h .same)
@@ -198,6 +224,7 @@ header-ranges line rules =
 
 -- how a book that was read came from its bytes
 pub record BookRead (bytes : List ℕ) (b : Problem) : Type 0 where
+  pub ends : lineLength bytes < length bytes
   pub rules : NoneApplies (headerRules (lineOf bytes))
   pub loads : readLoads (slotCount (lineOf bytes)) (ratioIn (lineOf bytes)) (loadCount (lineOf bytes)) 2 (afterLine bytes) ≡ done (b .loads)
   pub same : problem (lineOf bytes) (b .loads) ≡ b
@@ -211,12 +238,25 @@ book-read bytes b e =
     let c : (first (lineRule bytes ∷ headerRules line) ≡ Passed) × (andThen rest whole ≡ done b)
     = checked-done 1 (first (lineRule bytes ∷ headerRules line)) (andThen rest whole) b e in
     let d : (ls : List Settings) × (rest ≡ done ls) × (whole ls ≡ done b) = then-done rest whole b (c .1) in
+    let none : NoneApplies (lineRule bytes ∷ headerRules line) = first-passed (lineRule bytes ∷ headerRules line) (c .0) in
     subst (BookRead bytes) (done-same (problem line (d .0)) b (d .2))
     (record {
-      rules = first-passed (lineRule bytes ∷ headerRules line) (c .0) .1;
+      ends = has-line bytes (none .0);
+      rules = none .1;
       loads = d .1;
       same = refl;
     })
+
+-- and the other way round
+pub book-back : (bytes : List ℕ) (b : Problem) → BookRead bytes b → readBook bytes ≡ done b
+unfolding readBook
+book-back bytes b h =
+    let line : List ℕ = lineOf bytes in
+    let rest : Result (List Settings) = readLoads (slotCount line) (ratioIn line) (loadCount line) 2 (afterLine bytes) in
+    let whole : List Settings → Result Problem = λ ls. done (problem line ls) in
+    ap (λ f. checked 1 f (andThen rest whole)) (first-none (lineRule bytes ∷ headerRules line) (line-due bytes (h .ends), h .rules))
+    ∙ ap (λ x. andThen x whole) (h .loads)
+    ∙ ap (λ p. done p) (h .same)
 
 module _ (bytes : List ℕ) (b : Problem) (e : readBook bytes ≡ done b) where
   good : ValidLoads (loadCount (lineOf bytes)) (slotCount (lineOf bytes)) (ratioIn (lineOf bytes)) (b .loads)
@@ -232,7 +272,7 @@ module _ (bytes : List ℕ) (b : Problem) (e : readBook bytes ≡ done b) where
       ap (λ (x : Problem). length (x .limits)) (sym (book-read bytes b e .same))
       ∙ length-upto (λ s. field (lineOf bytes) (16 + ratioDigits (lineOf bytes) + 4 * s) 4) (slotCount (lineOf bytes))
 
-  ratio-is : b .ratio ≡ ratioIn (lineOf bytes)
+  pub ratio-is : b .ratio ≡ ratioIn (lineOf bytes)
   ratio-is = ap (λ (x : Problem). x .ratio) (sym (book-read bytes b e .same))
 
   pub book-valid : ValidBook b

@@ -1,4 +1,4 @@
--- Document 01's bounds, those of document 02's M-107 and M-108, and the sizes that follow from them, each number once. The code has them as constants of the
+-- Document 01's bounds, those of document 02's M-107, M-108 and M-110, and the sizes that follow from them, each number once. The code has them as constants of the
 -- types that they bound, and the program's two in crate program. The largest charges follow from them too.
 use Prim.Native.Nat.{ℕ, _*_, _+_, _/_}
 
@@ -20,6 +20,10 @@ mostOptions = 3
 abbrev pub mostRatio : ℕ
 mostRatio = 3
 
+-- a limit has 4 digits; "23 when a limit sum exceeds 65,535" (M-110)
+abbrev pub mostLimit : ℕ
+mostLimit = 65535
+
 -- "a number c from 0 to its o"
 abbrev pub mostSettings : ℕ
 mostSettings = mostOptions + 1
@@ -36,6 +40,13 @@ mostCells = 1_048_576
 -- twice the square of the rows is at most the cells, and 2 × 724² ≤ 1,048,576 < 2 × 725²
 abbrev pub mostRows : ℕ
 mostRows = 724
+
+-- the bytes of the longest book: a header of kind `08`, and load lines of kind `06` with three levels, each line with its LF
+abbrev pub mostLine : ℕ
+mostLine = 4 + 8 * mostSlots + mostOptions * (4 + 8 * mostSlots) + 1
+
+abbrev pub mostBook : ℕ
+mostBook = 18 + 4 * mostSlots + 1 + mostLoads * mostLine
 
 -- the bytes of the longest sheet: 19 + 2N + 23T
 abbrev pub mostSheet : ℕ

@@ -28,6 +28,9 @@ pub enum Refusal {
     TooManyBooks,
     OutputTooLong,
     TooCoarse,
+    SlotsOrFinenessDiffer,
+    TooManyLoads,
+    LimitSumTooLarge,
 }
 
 // What the table of refusals says: none applies, or the first that does.
@@ -116,7 +119,7 @@ impl Load {
 }
 
 impl Book {
-    // Document 01's upper bounds of T, N, d and o, and M-108's of r; each lower bound is 1. Then of the cells, and the bytes of the longest sheet; of a day's
+    // Document 01's upper bounds of T, N, d and o, and M-108's of r; each lower bound is 1. Then of a limit, which may be 0, of the cells, and the bytes of the longest sheet; of a day's
     // books (M-107), and the bytes of a day's longest output.
     pub const SLOTS: usize = 4;
 
@@ -127,6 +130,8 @@ impl Book {
     pub const OPTIONS: usize = 3;
 
     pub const RATIO: u64 = 3;
+
+    pub const LIMIT: u64 = 65535;
 
     pub const CELLS: usize = 1048576;
 
@@ -177,6 +182,9 @@ impl Refusal {
             Refusal::TooManyBooks => 18,
             Refusal::OutputTooLong => 19,
             Refusal::TooCoarse => 20,
+            Refusal::SlotsOrFinenessDiffer => 21,
+            Refusal::TooManyLoads => 22,
+            Refusal::LimitSumTooLarge => 23,
         }
     }
 }

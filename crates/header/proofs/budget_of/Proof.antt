@@ -2,7 +2,7 @@
 use mathlib.Core.Path.{ap, _∙_}
 use Prim.Native.Nat.{_+_}
 use Rattle.model.specs.Frames.{field}
-use Rattle.header.proofs.HeaderLaws.{ratio-few}
+use Rattle.model.proofs.LengthLaws.{ratio-few}
 use native.Mathlib.Omega.{arith}
 use borrow.Author.Needs.{needs}
 use Rattle.header.proofs.budget_of.Statement.{statement}

@@ -6,7 +6,7 @@ use lib.ListN.{List·getD-eq-default}
 use Rattle.model.specs.Frames.{field}
 use Rattle.model.specs.Book.{slotCount, ratioDigits, limitsIn}
 use Rattle.model.proofs.UptoLaws.{length-upto, getD-upto}
-use Rattle.header.proofs.HeaderLaws.{ratio-few}
+use Rattle.model.proofs.LengthLaws.{ratio-few}
 use native.Mathlib.Omega.{arith}
 use borrow.Author.Needs.{needs}
 use Rattle.header.proofs.limit_at.Statement.{statement}

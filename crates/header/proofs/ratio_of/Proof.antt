@@ -1,7 +1,8 @@
 -- `header::ratio_of` meets its contract. Assumes nothing.
 use mathlib.Core.Path.{sym, ap, _∙_}
 use Rattle.model.specs.Frames.{field}
-use Rattle.header.proofs.HeaderLaws.{ratio-few, ratio-unstated, ratio-stated}
+use Rattle.model.proofs.LengthLaws.{ratio-few}
+use Rattle.header.proofs.HeaderLaws.{ratio-unstated, ratio-stated}
 use native.Mathlib.Omega.{arith}
 use borrow.Author.Needs.{needs}
 use Rattle.header.proofs.ratio_of.Statement.{statement}

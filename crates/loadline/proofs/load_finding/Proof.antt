@@ -11,7 +11,7 @@ use Rattle.model.specs.Refusals.{first}
 use Rattle.model.specs.Book.{loadKinds, loadRules, optionCount, standingPairs, optionStart}
 use Rattle.model.proofs.RefusalLaws.{first-here, first-next, first-last}
 use Rattle.hex.proofs.RangeLaws.{kind-long, ranged, in-range}
-use Rattle.loadline.proofs.LineLaws.{pairs-most}
+use Rattle.model.proofs.LengthLaws.{pairs-most}
 use native.Mathlib.Omega.{arith}
 use borrow.Author.Needs.{needs}
 use Rattle.loadline.proofs.load_finding.Statement.{statement}
