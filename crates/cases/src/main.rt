@@ -1,5 +1,5 @@
-// Runs the planner, the strict planner, the quick planner, the sheet reader, the charge, the order of starting, the views and the day on fixed books and
-// sheets, and prints each answer. Every refusal is reached: 1 to 8 with its line, and 9 to 20. The stored output is what documents 01 and 02 say.
+// Runs the planner, the strict planner, the quick planner, the sheet reader, the charge, the order of starting, the views, the day and pooling on fixed
+// books and sheets, and prints each answer. Every refusal is reached: 1 to 8 with its line, and 9 to 23. The stored output is what documents 01 and 02 say.
 use libc::STDOUT_FILENO;
 use model::Answer;
 
@@ -414,6 +414,40 @@ fn days() {
     day_case(b"33 books, too long", &lines, &mut short[..0]);
 }
 
+// Two books, and the buffer as the call left it.
+fn pool_case(name: &[u8], first: &[u8], second: &[u8], pooled: &mut [u8]) {
+    let a = pool::pool(first, second, pooled);
+    print_answer(name, b": pool, number ", a, pooled);
+}
+
+// Two mills of a limit of 5 and a load of (4, 4) and (4, -4), of which neither fits alone: with a byte too few, and with just enough; then the pooled plan, on
+// which both run.
+fn pools() {
+    let first = b"01010104000000640005\n0201000500040004\n";
+    let second = b"080101040300000C800005\n020100040004FFFC\n";
+    let mut short = [46u8; 56];
+    let mut pooled = [46u8; 57];
+    pool_case(b"no sheet", first, second, &mut short);
+    pool_case(b"two mills", first, second, &mut pooled);
+    let mut work = [77u64; 6144];
+    let mut sheet = [46u8; 47];
+    plan_case(b"two mills", &pooled, &mut work, &mut sheet);
+}
+
+// Both books torn, of which the first's fault is given; the second torn, whose line counts on; another d, with loads too many; as many loads; and limits too
+// large, with no room at all.
+fn refused_pools() {
+    let mill = b"0101010400000064FFFF\n0201000500040004\n";
+    let many =
+        b"01010D010000006400FF\n0201000000000000\n0201000000000000\n0201000000000000\n0201000000000000\n0201000000000000\n0201000000000000\n0201000000000000\n0201000000000000\n0201000000000000\n0201000000000000\n0201000000000000\n0201000000000000\n0201000000000000\n";
+    let mut pooled = [46u8; 10];
+    pool_case(b"both torn", b"01", b"01", &mut pooled);
+    pool_case(b"second torn", mill, b"01", &mut pooled);
+    pool_case(b"other fineness", mill, many, &mut pooled);
+    pool_case(b"too many loads", many, many, &mut pooled);
+    pool_case(b"limit too large", mill, mill, &mut pooled[..0]);
+}
+
 fn main() {
     unreadable_books();
     misshapen_books();
@@ -434,4 +468,6 @@ fn main() {
     orders();
     views();
     days();
+    pools();
+    refused_pools();
 }

@@ -1,14 +1,18 @@
 -- Writes into a buffer: their length, and how they join.
 -- Assumes nothing.
-use Prim.Native.Nat.{ℕ, suc, _+_, _-_, _/_, _%_, _^_, _≤_, _<_}
-use mathlib.Core.List.{List, [], _∷_, _++_, append-assoc, append-nil}
+use Prim.Native.Nat.{ℕ, suc, _+_, _*_, _-_, _/_, _%_, _^_, _≤_, _<_}
+use mathlib.Core.List.{List, [], _∷_, _++_, map, map-append, append-assoc, append-nil}
 use mathlib.Core.Path.{_≡_, sym, ap, ap₂, _∙_}
-use native.Mathlib.Nat.{add-zero, add-assoc, zero-add, sub-self, div-one, div-div-eq-div-mul, pow-zero, pow-suc}
+use native.Mathlib.Nat.{add-zero, add-assoc, zero-add, sub-self, div-one, div-div-eq-div-mul, pow-zero, pow-suc, mul-le-mul-left}
 use native.Mathlib.Numerals.{add-one}
 use native.Mathlib.Omega.{arith}
 use lib.ListN.{length, getD, take, drop, set, length-append, length-take, length-drop, take-append-drop}
 use lib.Seq.{take-at, drop-at, set-at, take-suc, drop-drop, length-take-le, take-add, take-length, drop-length}
+use Rattle.model.specs.Lists.{concat}
 use Rattle.model.specs.Frames.{digit, digits}
+use Rattle.model.specs.Sheet.{lf}
+use Rattle.model.proofs.ListLaws.{length-concat, concat-last}
+use Rattle.model.proofs.FrameLaws.{length-digits}
 use Rattle.hex.specs.Written.{written}
 
 pub length-written : (l : List ℕ) (at : ℕ) (xs : List ℕ) → at + length xs ≤ length l → length (written l at xs) ≡ length l
@@ -51,6 +55,29 @@ write-on l l′ at at′ xs ys e p h = ap₂ (λ m k. written m k ys) e p ∙ wr
 pub write-byte : (l : List ℕ) (at v : ℕ) → at < length l → set l at v ≡ written l at (v ∷ [])
 write-byte l at v h = ap (λ m. set m at v) (sym (written-none l (at + 1))) ∙ written-front l at v [] h
 
+-- a line: four fields and an LF, or three
+pub write-line : (l l₁ l₂ l₃ l₄ : List ℕ) (at p₂ p₃ p₄ p₅ : ℕ) (a b c d : List ℕ)
+    → l₁ ≡ written l at a → l₂ ≡ written l₁ p₂ b → l₃ ≡ written l₂ p₃ c → l₄ ≡ written l₃ p₄ d
+    → p₂ ≡ at + length a → p₃ ≡ p₂ + length b → p₄ ≡ p₃ + length c → p₅ ≡ p₄ + length d → p₅ + 1 ≤ length l
+    → set l₄ p₅ 10 ≡ written l at (a ++ b ++ c ++ d ++ lf)
+write-line l l₁ l₂ l₃ l₄ at p₂ p₃ p₄ p₅ a b c d e₁ e₂ e₃ e₄ q₂ q₃ q₄ q₅ h =
+    let w₂ : l₂ ≡ written l at (a ++ b) = e₂ ∙ write-on l l₁ at p₂ a b e₁ q₂ (omega arith) in
+    let n₂ : length (a ++ b) ≡ length a + length b = length-append a b in
+    let w₃ : l₃ ≡ written l at ((a ++ b) ++ c) = e₃ ∙ write-on l l₂ at p₃ (a ++ b) c w₂ (omega arith) (omega arith) in
+    let n₃ : length ((a ++ b) ++ c) ≡ length a + length b + length c = length-append (a ++ b) c ∙ (omega arith) in
+    let w₄ : l₄ ≡ written l at (((a ++ b) ++ c) ++ d) = e₄ ∙ write-on l l₃ at p₄ ((a ++ b) ++ c) d w₃ (omega arith) (omega arith) in
+    let n₄ : length (((a ++ b) ++ c) ++ d) ≡ length a + length b + length c + length d = length-append ((a ++ b) ++ c) d ∙ (omega arith) in
+    let n : length l₄ ≡ length l = ap length w₄ ∙ length-written l at (((a ++ b) ++ c) ++ d) (omega arith) in
+    write-byte l₄ p₅ 10 (omega arith)
+    ∙ write-on l l₄ at p₅ (((a ++ b) ++ c) ++ d) lf w₄ (omega arith) (omega arith)
+    ∙ ap (written l at) (simp append-assoc)
+
+pub write-line-three : (l l₁ l₂ l₃ : List ℕ) (p₂ p₃ end : ℕ) (a b c : List ℕ) → l₁ ≡ written l 0 a → l₂ ≡ written l₁ p₂ b → l₃ ≡ written l₂ p₃ c
+    → p₂ ≡ length a → p₃ ≡ p₂ + length b → end ≡ p₃ + length c → end + 1 ≤ length l → set l₃ end 10 ≡ written l 0 (a ++ b ++ c ++ lf)
+write-line-three l l₁ l₂ l₃ p₂ p₃ end a b c e₁ e₂ e₃ q₂ q₃ q₄ h =
+    write-line l l₁ l₂ l₃ l₃ 0 p₂ p₃ end end a b c [] e₁ e₂ e₃ (sym (written-none l₃ end)) (omega arith) q₃ q₄ (omega arith) h
+    ∙ ap (λ r. written l 0 (r ++ lf)) (append-nil (a ++ b ++ c))
+
 -- a write into the part from a place on
 written-part : (l : List ℕ) (a at : ℕ) (xs : List ℕ) → a ≤ length l → take a l ++ written (drop a l) at xs ≡ written l (a + at) xs
 unfolding written
@@ -76,6 +103,28 @@ pub then-written : (l l₁ l₂ first rest : List ℕ) (p : ℕ) → l₁ ≡ wr
 then-written l l₁ l₂ first rest p e f q h =
     let k : length l₁ ≡ length l = ap length e ∙ length-written l 0 first (omega arith) in
     part-written l₁ l₂ rest p f (omega arith) ∙ write-on l l₁ 0 p first rest e (omega arith) (omega arith)
+
+-- numbers of n digits in a row, one more
+pub row-inside : (n i m : ℕ) → i < m → n * i + n ≤ n * m
+row-inside n i m h =
+    let more : i + 1 ≤ m = omega arith in
+    omega (arith, mul-le-mul-left n more)
+
+row-last : (n : ℕ) (xs : List ℕ) (i : ℕ) → i < length xs → concat (map (digits n) (take (i + 1) xs)) ≡ concat (map (digits n) (take i xs)) ++ digits n (getD xs i 0)
+row-last n xs i h =
+    ap (λ ys. concat (map (digits n) ys)) (ap (λ j. take j xs) (add-one i) ∙ take-suc xs i 0 h)
+    ∙ ap concat (map-append (digits n) (take i xs) (getD xs i 0 ∷ []))
+    ∙ concat-last (map (digits n) (take i xs)) (digits n (getD xs i 0))
+
+pub row-more : (n : ℕ) (xs l l′ l″ : List ℕ) (at p i : ℕ) → l′ ≡ written l at (concat (map (digits n) (take i xs))) → l″ ≡ written l′ p (digits n (getD xs i 0))
+    → p ≡ at + n * i → i < length xs → at + n * length xs ≤ length l → l″ ≡ written l at (concat (map (digits n) (take (i + 1) xs)))
+row-more n xs l l′ l″ at p i e f q few h =
+    let passed : length (concat (map (digits n) (take i xs))) ≡ n * i
+    = length-concat (digits n) n (length-digits n) (take i xs) ∙ ap (λ j. n * j) (length-take-le i xs (omega arith)) in
+    f
+    ∙ write-on l l′ at p (concat (map (digits n) (take i xs))) (digits n (getD xs i 0)) e (omega (arith, passed, q))
+    (omega (arith, row-inside n i (length xs) few, length-digits n (getD xs i 0)))
+    ∙ ap (written l at) (sym (row-last n xs i few))
 
 -- bytes copied one by one, from the first on: one more
 pub copied-more : (bytes l l′ : List ℕ) (at i : ℕ) → l′ ≡ written l at (take i bytes) → i < length bytes → at + length bytes ≤ length l → length l′ ≡ length l

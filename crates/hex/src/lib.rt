@@ -1,9 +1,10 @@
 // Hexadecimal digits, numbers and lines in a slice of bytes, read and written; whether a number is in its range and a line of a kind that is due.
 ghost use mathlib.Core.Path.{_≡_};
 ghost use mathlib.Core.Bool.{not};
-ghost use Prim.Native.Nat.{_+_, _≤_, _<_};
+ghost use mathlib.Core.List.{map};
+ghost use Prim.Native.Nat.{_+_, _*_, _≤_, _<_};
 ghost use lib.ListN.{length};
-ghost use Rattle.model.specs.Lists.{all, within};
+ghost use Rattle.model.specs.Lists.{all, within, concat};
 ghost use Rattle.model.specs.Frames.{isDigit, digitValue, digit, field, digits, lineLength};
 ghost use Rattle.model.specs.Book.{kindRule};
 ghost use Rattle.hex.specs.Written.{written};
@@ -105,6 +106,18 @@ pub fn write(buf: &mut [u8], at: usize, n: usize, x: u64)
         left -= 1;
         buf[at + left] = digit_of(rest % 16);
         rest = rest / 16;
+    }
+}
+
+// Writes the lowest n digits of each number, one after the other, from `at` on.
+pub fn write_row(buf: &mut [u8], at: usize, n: usize, xs: &[u64])
+    requires { ⌜ at + n * length (now xs) ≤ length (now buf) ⌝ }
+    ensures { λ _. ⌜ now (buf .exit) ≡ written (now (buf .entry)) at (concat (map (digits n) (now (xs .entry)))) ⌝ }
+{
+    let mut i = 0;
+    while i < xs.len() {
+        write(buf, at + n * i, n, xs[i]);
+        i += 1;
     }
 }
 

@@ -1,12 +1,12 @@
 // The public calls for programs in C and other languages: the planner, the strict planner, the quick planner, the sheet reader, the charge, the
-// order of starting, what the mill and the supply company see, and a day's books at once.
+// order of starting, what the mill and the supply company see, a day's books at once, and one book for two mills.
 use model::Answer;
 use model::ChargeAnswer;
 use model::OrderAnswer;
 use model::SheetAnswer;
 ghost use mathlib.Core.Path.{_≡_};
 ghost use Prim.Native.Nat.{_≤_};
-ghost use lib.ListN.{length};
+ghost use lib.ListN.{length, take};
 ghost use Rattle.model.specs.Trials.{WordsKept};
 ghost use Rattle.model.specs.Answers.{Writes};
 ghost use Rattle.model.specs.Calls.{plannerResult, freeWords};
@@ -18,6 +18,7 @@ ghost use Rattle.model.specs.Charge.{chargeResult, chargeAnswerOf};
 ghost use Rattle.model.specs.Order.{orderResult, WritesOrder, OrderKept};
 ghost use Rattle.model.specs.Views.{millResult, supplyResult, NothingElse};
 ghost use Rattle.model.specs.Day.{dayResult, dayFreeWords};
+ghost use Rattle.model.specs.Pool.{poolResult, Pooled};
 ghost use Rattle.model.specs.Bounds.{mostCharge};
 
 // The planner: the sheet of the plan, or the first refusal of 1 to 12 and 17.
@@ -107,4 +108,13 @@ pub extern "C" fn jadeshuttle_day(books: &[u8], work: &mut [u64], out: &mut [u8]
     ensures words { λ _. ⌜ WordsKept (dayFreeWords (now (books .entry)) (length (now (work .entry)))) (now (work .entry)) (now (work .exit)) ⌝ }
 {
     day::day(books, work, out)
+}
+
+// One book for two mills on one transformer, or refusals 1 to 8 of the first book, of the second with its lines counted on, 21 to 23 and 11.
+#[no_mangle]
+pub extern "C" fn jadeshuttle_pool(first: &[u8], second: &[u8], pooled: &mut [u8]) -> Answer
+    ensures result { λ r. ⌜ Writes (poolResult (now (first .entry)) (now (second .entry)) (length (now (pooled .entry)))) (now (pooled .entry)) (now (pooled .exit)) r ⌝ }
+    ensures joint { λ r. ⌜ (r .number ≡ 0 → Pooled (now (first .entry)) (now (second .entry)) (take (r .bytes) (now (pooled .exit)))) ⌝ }
+{
+    pool::pool(first, second, pooled)
 }

@@ -3,7 +3,7 @@
 use Prim.Native.Nat.{ℕ, zero, suc, _+_, _*_, _-_, _^_, _≤_, _<_}
 use mathlib.Core.Path.{_≡_, refl, sym, ap, ap₂, _∙_}
 use mathlib.Core.Logic.{_⊎_, inl, inr}
-use mathlib.Core.List.{List, [], _∷_, _++_, map, append-assoc}
+use mathlib.Core.List.{List, [], _∷_, _++_, map}
 use native.Mathlib.Nat.{zero-add, add-zero}
 use native.Mathlib.Omega.{arith}
 use lib.IntN.{subℕ}
@@ -12,13 +12,13 @@ use Rattle.model.specs.Lists.{upto, uptoFrom, concat}
 use Rattle.model.specs.Frames.{digits, unsigned}
 use Rattle.model.specs.Book.{Setting, Problem}
 use Rattle.model.specs.Choice.{Choice, worthOf, sumIn, noSetting}
-use Rattle.model.specs.Sheet.{lf, numbersOf, firstLine, SumsAndLimit, sumsAndLimit, sumsAndLimits, slotLine, slotLines}
+use Rattle.model.specs.Sheet.{numbersOf, firstLine, SumsAndLimit, sumsAndLimit, sumsAndLimits, slotLine, slotLines}
 use Rattle.model.proofs.ListLaws.{length-concat}
 use Rattle.model.proofs.UptoLaws.{suc-across, length-upto, getD-upto, pieces-last}
 use Rattle.model.proofs.FrameLaws.{length-digits}
 use Rattle.model.proofs.IntegerLaws.{split, sub-pos, sub-neg}
 use Rattle.hex.specs.Written.{written}
-use Rattle.hex.proofs.WrittenLaws.{length-written, write-byte, write-on}
+use Rattle.hex.proofs.WrittenLaws.{write-on, write-line}
 use Rattle.lines.specs.Lines.{numbersIn, firstBytes, slotBytes, wordIn, slotsBytes}
 
 -- ---- pieces over the numbers below a bound
@@ -78,23 +78,6 @@ module _ (count : ℕ) (actives reactives limits : List ℕ) where
   slots-more n = pieces-last slotAt n
 
 -- ---- writes after each other
-
--- a line: four fields and an LF
-pub write-line : (l l₁ l₂ l₃ l₄ : List ℕ) (at p₂ p₃ p₄ p₅ : ℕ) (a b c d : List ℕ)
-    → l₁ ≡ written l at a → l₂ ≡ written l₁ p₂ b → l₃ ≡ written l₂ p₃ c → l₄ ≡ written l₃ p₄ d
-    → p₂ ≡ at + length a → p₃ ≡ p₂ + length b → p₄ ≡ p₃ + length c → p₅ ≡ p₄ + length d → p₅ + 1 ≤ length l
-    → set l₄ p₅ 10 ≡ written l at (a ++ b ++ c ++ d ++ lf)
-write-line l l₁ l₂ l₃ l₄ at p₂ p₃ p₄ p₅ a b c d e₁ e₂ e₃ e₄ q₂ q₃ q₄ q₅ h =
-    let w₂ : l₂ ≡ written l at (a ++ b) = e₂ ∙ write-on l l₁ at p₂ a b e₁ q₂ (omega arith) in
-    let n₂ : length (a ++ b) ≡ length a + length b = length-append a b in
-    let w₃ : l₃ ≡ written l at ((a ++ b) ++ c) = e₃ ∙ write-on l l₂ at p₃ (a ++ b) c w₂ (omega arith) (omega arith) in
-    let n₃ : length ((a ++ b) ++ c) ≡ length a + length b + length c = length-append (a ++ b) c ∙ (omega arith) in
-    let w₄ : l₄ ≡ written l at (((a ++ b) ++ c) ++ d) = e₄ ∙ write-on l l₃ at p₄ ((a ++ b) ++ c) d w₃ (omega arith) (omega arith) in
-    let n₄ : length (((a ++ b) ++ c) ++ d) ≡ length a + length b + length c + length d = length-append ((a ++ b) ++ c) d ∙ (omega arith) in
-    let n : length l₄ ≡ length l = ap length w₄ ∙ length-written l at (((a ++ b) ++ c) ++ d) (omega arith) in
-    write-byte l₄ p₅ 10 (omega arith)
-    ∙ write-on l l₄ at p₅ (((a ++ b) ++ c) ++ d) lf w₄ (omega arith) (omega arith)
-    ∙ ap (written l at) (simp append-assoc)
 
 pub slot-written : (l l₁ l₂ l₃ l₄ : List ℕ) (at p₂ p₃ p₄ p₅ active word limit : ℕ) → l₁ ≡ written l at (digits 2 5) → l₂ ≡ written l₁ p₂ (digits 8 active)
     → l₃ ≡ written l₂ p₃ (digits 8 word) → l₄ ≡ written l₃ p₄ (digits 4 limit) → p₂ ≡ at + 2 → p₃ ≡ at + 10 → p₄ ≡ at + 18 → p₅ ≡ at + 22

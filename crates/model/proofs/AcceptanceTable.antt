@@ -1,12 +1,12 @@
 -- The proved table: document 01's starred cases ("Trials at the bench"), the ends of M-102's range, two overloads near M-106's bound, charges (M-100),
 -- orders of starting (M-101), views (M-103), standing loads that draw (M-104), loads that must run (M-105), a day's books (M-107), poorer power factors
--- (M-108), the strict planner (M-109), and edges where a near mistake shows, as one table of facts about the definitions, with one statement covering it. Star n is the n-th star of document 01.
--- Assumes nothing.
+-- (M-108), the strict planner (M-109), two mills' books pooled (M-110), and edges where a near mistake shows, as one table of facts about the definitions, with
+-- one statement covering it. Star n is the n-th star of document 01. Assumes nothing.
 use mathlib.Core.Path.{_≡_, refl, ap₂, _∙_}
 use mathlib.Core.Bool.{Bool, true, false, _&&_}
 use mathlib.Core.List.{List, [], _∷_, _++_, map}
 use mathlib.Core.Option.{Option, none, some}
-use Prim.Native.Nat.{ℕ, suc, _+_, _*_, _-_}
+use Prim.Native.Nat.{ℕ, zero, suc, _+_, _*_, _-_}
 use Prim.Native.String.{String, [] as ε, _∷_ as _⸬_}
 use Prim.Native.Char.{code}
 use lib.Count.{onesIn, ones}
@@ -35,12 +35,18 @@ use Rattle.model.specs.Charge.{rounded, chargeOf, choiceCharge, sheetCha
 use Rattle.model.specs.Order.{Running, starting, runningMask, andNot, startCount, wrongNames, someBlocked, left, ready, startNext, startedAfter, startOrder, OrderData, loadsOrder, sheetsOrder, orderResult}
 use Rattle.model.specs.Day.{booksFrom, dayOutput, dayRules, dayOf, dayResult, dayFreeWords}
 use Rattle.model.specs.Strict.{bestKeeping, strictPlan, strictBook, strictResult, strictFree}
+use Rattle.model.specs.Pool.{readBoth, limitSums, pairRules, poolable, headerLine, pooledWith, poolResult}
 use Rattle.model.specs.Views.{accepted, runningLoads, numberAndLevel, millLine, millResult, supplyView, supplyResult}
 use Rattle.model.proofs.ListLaws.{all-join}
 
 abbrev pub bytesOf : String → List ℕ
 bytesOf ε = []
 bytesOf (c ⸬ s) = code c ∷ bytesOf s
+
+-- one text before another
+abbrev joined : String → String → String
+joined ε t = t
+joined (c ⸬ s) t = c ⸬ joined s t
 
 -- a row of the table
 pub data Row : Type 0 where
@@ -73,8 +79,8 @@ pub data Row : Type 0 where
   orders : List ℕ → List ℕ → List ℕ → ℕ → List ℕ → Row
   -- the same of a book, the running sheet and the new one
   ordersFrom : List ℕ → List ℕ → List ℕ → List ℕ → ℕ → List ℕ → Row
-  -- the mill's view of a book and a sheet, the supply company's, or the quick or the strict planner's sheet for the book, in a buffer of so many bytes: the
-  -- answer's five numbers, and what is written, printed as the program prints a sheet
+  -- the mill's view of a book and a sheet, the supply company's, the quick or the strict planner's sheet for the book, or two books pooled, in a buffer of so
+  -- many bytes: the answer's five numbers, and what is written, printed as the program prints a sheet
   shows : (List ℕ → List ℕ → ℕ → Result Output) → List ℕ → List ℕ → ℕ → List ℕ → String → Row
   -- the day of these bytes, with a work area of so many words and a buffer of so many bytes: the answer's five numbers, and its output, or of a refusal
   -- the line that the program would print
@@ -561,6 +567,134 @@ strictRows =
     ∷ strictFrees "01010101000000640064\n0201000100040004\n" 6144 4096 0
     ∷ []
 
+-- M-110: two books pooled, in a buffer for which none is too long; and refused, in a buffer of 0 bytes, so that each number comes before 11
+abbrev pools : String → String → String → Row
+pools one two out = shows poolResult (bytesOf one) (bytesOf two) 3515 (0 ∷ 0 ∷ length (bytesOf out) ∷ 0 ∷ 0 ∷ []) out
+
+abbrev unpooled : String → String → ℕ → ℕ → String → Row
+unpooled one two number line out = shows poolResult (bytesOf one) (bytesOf two) 0 (number ∷ line ∷ 0 ∷ 0 ∷ 0 ∷ []) out
+
+-- two mills of one load, which draws as much as the limit, 6 and 8; and their books pooled
+abbrev mill : String
+mill = "01010105000000640006\n0201000500060000\n"
+
+abbrev annex : String
+annex = "01010105000000640008\n0201000400080000\n"
+
+abbrev bothMills : String
+bothMills = "080102050100000064000E\n0201000500060000\n0201000400080000\n"
+
+-- the annex with two slots, and with d = 4
+abbrev twoSlots : String
+twoSlots = "010201050000006400080008\n020100040008000000080000\n"
+
+abbrev coarser : String
+coarser = "01010104000000640008\n0201000400080000\n"
+
+-- a mill of three slots, with its limits as 12 digits
+abbrev threeSlots : String → String
+threeSlots limits = joined "0103010500000064" (joined limits "\n02010005000600000006000000060000\n")
+
+-- a mill with r = 3, whose load draws (2, -6), and one with r = 2, whose load draws (2, 4)
+abbrev thrice : String
+thrice = "0801010503000000640008\n020100040002FFFA\n"
+
+abbrev twice : String
+twice = "0801010502000000640008\n0201000400020004\n"
+
+-- load lines of each kind: `06` and `02`; and `07`, with two levels
+abbrev mixed : String
+mixed = "01010205000000640006\n06010003FFFD000500060002\n020100010001FFFF\n"
+
+abbrev required : String
+required = "01010105000000640008\n070200010005FFFB000300060006\n"
+
+-- S = 5: a mill whose load draws (4, 4), and one whose load draws (4, -4), each over the limit
+abbrev motor : String
+motor = "01010105000000640005\n0201000500040004\n"
+
+abbrev bank : String
+bank = "01010105000000640005\n020100040004FFFC\n"
+
+-- so many load lines, all alike
+abbrev loadLines : ℕ → String
+loadLines zero = ""
+loadLines (suc n) = joined "0201000100010000\n" (loadLines n)
+
+-- of two mills' books pooled (M-110). The rows that the nearest mistakes break stand first, so that they show as false, and plans stand last.
+unfoldable pub poolRows : List Row
+poolRows =
+    -- header kind `08`, though both have `01`; the first's lines, then the second's; at the room that is due
+    shows poolResult (bytesOf mill) (bytesOf annex) 57 (0 ∷ 0 ∷ 57 ∷ 0 ∷ 0 ∷ []) bothMills
+    -- the larger budget, and the larger r, where the second has it
+    ∷ pools "010101050000000A0006\n0201000500060000\n" annex bothMills
+    ∷ pools mill thrice "080102050300000064000E\n0201000500060000\n020100040002FFFA\n"
+    -- the second's lines count on from N1 + 1; here its first is missing
+    ∷ unpooled mill "" 1 3 "FF010003\n"
+    -- two faults: 21 before 22
+    ∷ unpooled (joined "01011805000000640006\n" (loadLines 24)) coarser 21 0 "FF150000\n"
+    -- with a byte less room
+    ∷ shows poolResult (bytesOf mill) (bytesOf annex) 56 (11 ∷ 0 ∷ 0 ∷ 0 ∷ 0 ∷ []) "FF0B0000\n"
+    -- the other way round; and a pooled book with a third mill, so `08` with r = 1 beside `01`
+    ∷ pools annex mill "080102050100000064000E\n0201000400080000\n0201000500060000\n"
+    ∷ pools bothMills mill "0801030501000000640014\n0201000500060000\n0201000400080000\n0201000500060000\n"
+    -- the larger budget, and the larger r, where the first has it
+    ∷ pools mill "010101050000000A0008\n0201000400080000\n" bothMills
+    ∷ pools thrice mill "080102050300000064000E\n020100040002FFFA\n0201000500060000\n"
+    -- of two r that are stated, the larger
+    ∷ pools thrice twice "0801020503000000640010\n020100040002FFFA\n0201000400020004\n"
+    ∷ pools twice thrice "0801020503000000640010\n0201000400020004\n020100040002FFFA\n"
+    -- lines of kinds `02`, `06` and `07`, digit for digit
+    ∷ pools mixed required "080103050100000064000E\n06010003FFFD000500060002\n020100010001FFFF\n070200010005FFFB000300060006\n"
+    ∷ pools required mixed "080103050100000064000E\n070200010005FFFB000300060006\n06010003FFFD000500060002\n020100010001FFFF\n"
+    -- faults in both: the first's comes, also where the second's is on an earlier line of its book, and where the first's is 8
+    ∷ unpooled "" "" 1 1 "FF010001\n"
+    ∷ unpooled "01010105000000640006\n020100050006FFF9\n" "0G\n" 7 2 "FF070002\n"
+    ∷ unpooled (joined mill "\n") "" 8 3 "FF080003\n"
+    -- a fault on the second's header, on a load line of it and after its last, where N1 is 1 or 2
+    ∷ unpooled mill "0301010500000064000G\n" 2 3 "FF020003\n"
+    ∷ unpooled mill "01010105000000640008\n020100040008FFF7\n" 7 4 "FF070004\n"
+    ∷ unpooled mill "01010205000000640008\n0201000400080000\n" 1 5 "FF010005\n"
+    ∷ unpooled bothMills "" 1 4 "FF010004\n"
+    ∷ unpooled bothMills (joined annex "\n") 8 6 "FF080006\n"
+    -- 21 by T and by d, either way
+    ∷ unpooled mill twoSlots 21 0 "FF150000\n"
+    ∷ unpooled twoSlots mill 21 0 "FF150000\n"
+    ∷ unpooled mill coarser 21 0 "FF150000\n"
+    ∷ unpooled coarser mill 21 0 "FF150000\n"
+    -- limit sums of 65,535 in the first slot and in the last; 23 by one more in the first, and in the last
+    ∷ pools (threeSlots "FFFE00060000") (threeSlots "00010008FFFF")
+    "080302050100000064FFFF000EFFFF\n02010005000600000006000000060000\n02010005000600000006000000060000\n"
+    ∷ unpooled (threeSlots "FFFF00060000") (threeSlots "00010008FFFF") 23 0 "FF170000\n"
+    ∷ unpooled (threeSlots "FFFE00060001") (threeSlots "00010008FFFF") 23 0 "FF170000\n"
+    -- two faults: 8 of the second before 21, and 21 before 23
+    ∷ unpooled mill (joined coarser "\n") 8 5 "FF080005\n"
+    ∷ unpooled "0101010500000064FFFF\n0201000500060000\n" coarser 21 0 "FF150000\n"
+    -- 24 loads are pooled, and 25 are not; 22 before 23
+    ∷ pools (joined "01011705000000640006\n" (loadLines 23)) mill
+    (joined "080118050100000064000C\n" (joined (loadLines 23) "0201000500060000\n"))
+    ∷ pools (joined "01010C05000000640006\n" (loadLines 12)) (joined "01010C05000000640006\n" (loadLines 12))
+    (joined "080118050100000064000C\n" (loadLines 24))
+    ∷ unpooled (joined "01011805000000640006\n" (loadLines 24)) mill 22 0 "FF160000\n"
+    ∷ unpooled (joined "01010C05000000640006\n" (loadLines 12)) (joined "01010D05000000640006\n" (loadLines 13)) 22 0 "FF160000\n"
+    ∷ unpooled (joined "0101180500000064FFFF\n" (loadLines 24)) mill 22 0 "FF160000\n"
+    -- the plan of each mill, and of both, worth both together
+    ∷ prints mill "04000000050000000201\n0500000006000000000006\n"
+    ∷ prints annex "04000000040000000201\n0500000008000000000008\n"
+    ∷ prints bothMills "0400000009000000060101\n050000000E00000000000E\n"
+    -- budgets of 2 are enough for each mill alone, and pooling does not add them: the pooled plan has 6 trials, and 12 is given
+    ∷ prints "01010105000000020006\n0201000500060000\n" "04000000050000000201\n0500000006000000000006\n"
+    ∷ prints "01010105000000020008\n0201000400080000\n" "04000000040000000201\n0500000008000000000008\n"
+    ∷ pools "01010105000000020006\n0201000500060000\n" "01010105000000020008\n0201000400080000\n"
+    "080102050100000002000E\n0201000500060000\n0201000400080000\n"
+    ∷ prints "080102050100000002000E\n0201000500060000\n0201000400080000\n" "FF0C0000\n"
+    -- alone each load is over its mill's limit and stands; pooled both run, as their Q cancel: worth more than both plans together
+    ∷ prints motor "04000000000000000200\n0500000000000000000005\n"
+    ∷ prints bank "04000000000000000200\n0500000000000000000005\n"
+    ∷ pools motor bank "080102050100000064000A\n0201000500040004\n020100040004FFFC\n"
+    ∷ prints "080102050100000064000A\n0201000500040004\n020100040004FFFC\n" "0400000009000000060101\n050000000800000000000A\n"
+    ∷ []
+
 -- of sheets: charges, orders of starting and views, the longest book last
 unfoldable pub sheetRows : List Row
 sheetRows =
@@ -688,15 +822,25 @@ unfolding holds strictRows programOutput refusalLine plannerResult planSheet fit
     strictBook strictResult strictFree strictPlan bestKeeping
 strict-rows-hold = refl
 
-pub table-holds : all holds (planRows ++ standingRows ++ mustRunRows ++ dayRows ++ ratioRows ++ strictRows ++ sheetRows) ≡ true
+pool-rows-hold : all holds poolRows ≡ true
+unfolding holds poolRows programOutput refusalLine plannerResult planSheet fittingBook sizeRules
+    readBook readLoads headerRules statesRatio ratioDigits ratioIn loadRules someExceeds standingPairs mustRun optionStart standingPower first
+    isDigit digitValue digit valueFrom field digits signed unsigned lineLength
+    slotsOf plan bestAdmitted cells trials reachedCount sheetBytes firstLine slotLines sumsAndLimits slotLine numbersOf settingOf
+    readBoth limitSums pairRules poolable headerLine pooledWith poolResult inRoom
+pool-rows-hold = refl
+
+pub table-holds : all holds (planRows ++ standingRows ++ mustRunRows ++ dayRows ++ ratioRows ++ strictRows ++ poolRows ++ sheetRows) ≡ true
 table-holds =
-    both (planRows ++ standingRows ++ mustRunRows ++ dayRows ++ ratioRows ++ strictRows) sheetRows
+    both (planRows ++ standingRows ++ mustRunRows ++ dayRows ++ ratioRows ++ strictRows ++ poolRows) sheetRows
+    (both (planRows ++ standingRows ++ mustRunRows ++ dayRows ++ ratioRows ++ strictRows) poolRows
     (both (planRows ++ standingRows ++ mustRunRows ++ dayRows ++ ratioRows) strictRows
     (both (planRows ++ standingRows ++ mustRunRows ++ dayRows) ratioRows
     (both (planRows ++ standingRows ++ mustRunRows) dayRows
     (both (planRows ++ standingRows) mustRunRows (both planRows standingRows plan-rows-hold standing-rows-hold) must-run-rows-hold) day-rows-hold)
     ratio-rows-hold)
     strict-rows-hold)
+    pool-rows-hold)
     sheet-rows-hold
   where
     both : (xs ys : List Row) → all holds xs ≡ true → all holds ys ≡ true → all holds (xs ++ ys) ≡ true

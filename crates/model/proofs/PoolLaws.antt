@@ -19,7 +19,7 @@ use Rattle.model.specs.Refusals.{Result, refused, done, first, checked, 
 use Rattle.model.specs.Book.{Power, Setting, Settings, Problem, slotCount, loadCount, settings, reactiveExceeds, someExceeds, loadRules, readLoads, readBook}
 use Rattle.model.specs.Valid.{ValidBook}
 use Rattle.model.specs.Demand.{T, S, N}
-use Rattle.model.specs.Pool.{later, Mills, readBoth, limitSums, pairRules, poolable, pooled, headerLine, pooledBytes, ReadsBack, AlwaysRoom}
+use Rattle.model.specs.Pool.{later, Mills, readBoth, limitSums, pairRules, poolable, pooled, headerLine, pooledWith, pooledBytes, ReadsBack, AlwaysRoom}
 use Rattle.model.proofs.ListLaws.{both-true, every-imp, any-false, any-none}
 use Rattle.model.proofs.UptoLaws.{length-upto}
 use Rattle.model.proofs.FrameLaws.{line-before, after-before, has-before}
@@ -177,7 +177,7 @@ module _ (one two : List ℕ) (m : Mills) (read : PoolRead one two m) where
       (N (pooled m)) pooled-loads 2
 
   bytes-read : readBook (pooledBytes one two m) ≡ done (pooled m)
-  unfolding pooledBytes
+  unfolding pooledWith
   bytes-read =
       ap readBook (append-assoc (headerLine (pooled m)) (afterLine one) (afterLine two))
       ∙ header-back (pooled m) pooled-fits (afterLine one ++ afterLine two) both-read

@@ -1,4 +1,5 @@
--- The table of refusals: what a result that came through it tells, that no refusal has number 0, and how large its number can be in a table or a result.
+-- The table of refusals: what a result that came through it tells, that no refusal has number 0, and how large its number and its line can be
+-- in a table or a result.
 -- Assumes nothing.
 use mathlib.Core.Path.{_≡_, refl, sym, ap, _∙_, subst}
 use mathlib.Core.Bool.{Bool, true, false, cond}
@@ -107,6 +108,26 @@ number-some SlotsOrFinenessDiffer e = omega arith
 number-some TooManyLoads e = omega arith
 number-some LimitSumTooLarge e = omega arith
 
+-- a refusal, where the result is one, and its line have a property
+module _ (P : Refusal → ℕ → Type 0) where
+  abbrev pub EachRefusal : {A : Type 0} → Result A → Type 0
+  EachRefusal (refused r line) = P r line
+  EachRefusal (done x) = Unit {0}
+
+  module _ {A : Type 0} where
+    pub checked-each : (line : ℕ) (f : Finding) (x : Result A) → ((r : Refusal) → f ≡ Refused r → P r line) → EachRefusal x → EachRefusal (checked line f x)
+    checked-each line Passed x h k = k
+    checked-each line (Refused r) x h k = h r refl
+
+  module _ {A B : Type 0} where
+    pub then-each : (x : Result A) (f : A → Result B) → EachRefusal x → ((a : A) → EachRefusal (f a)) → EachRefusal (andThen x f)
+    then-each (refused r line) f h k = h
+    then-each (done a) f h k = k a
+
+-- its line is at most n
+abbrev pub LineMost : ℕ → {A : Type 0} → Result A → Type 0
+LineMost n x = EachRefusal (λ r line. line ≤ n) x
+
 -- a refusal, where there is one, has a number of at most n
 module _ (n : ℕ) where
   -- of the rows of a table
@@ -115,8 +136,7 @@ module _ (n : ℕ) where
 
   -- of a result
   abbrev pub NumberMost : {A : Type 0} → Result A → Type 0
-  NumberMost (refused r line) = numberOf r ≤ n
-  NumberMost (done x) = Unit {0}
+  NumberMost x = EachRefusal (λ r line. numberOf r ≤ n) x
 
   pub first-most : (rs : List Rule) (r : Refusal) → RulesMost rs → first rs ≡ Refused r → numberOf r ≤ n
   unfolding first
@@ -129,13 +149,8 @@ module _ (n : ℕ) where
 
   module _ {A : Type 0} where
     pub checked-most : (line : ℕ) (rs : List Rule) (x : Result A) → RulesMost rs → NumberMost x → NumberMost (checked line (first rs) x)
-    checked-most line rs x h k = go (first rs) (first-most rs)
-      where
-        go : (f : Finding) → ((r : Refusal) → RulesMost rs → f ≡ Refused r → numberOf r ≤ n) → NumberMost (checked line f x)
-        go Passed q = k
-        go (Refused r) q = q r h refl
+    checked-most line rs x h k = checked-each (λ r line. numberOf r ≤ n) line (first rs) x (λ r. first-most rs r h) k
 
   module _ {A B : Type 0} where
     pub then-most : (x : Result A) (f : A → Result B) → NumberMost x → ((a : A) → NumberMost (f a)) → NumberMost (andThen x f)
-    then-most (refused r line) f h k = h
-    then-most (done a) f h k = k a
+    then-most x f h k = then-each (λ r line. numberOf r ≤ n) x f h k

@@ -1,4 +1,5 @@
--- What a book that was read is known to have: its counts and sizes, and |Q| ≤ r × P in every setting; and that no refusal of the reader has a number above 8.
+-- What a book that was read is known to have: its counts and sizes, and |Q| ≤ r × P in every setting; and that no refusal of the reader has a number above 8,
+-- and how large its line can be.
 -- Assumes nothing.
 use mathlib.Core.Path.{_≡_, refl, sym, ap, _∙_, subst}
 use mathlib.Core.Bool.{Bool, false, true, cond, not, _&&_, false≢true}
@@ -22,7 +23,7 @@ use Rattle.model.specs.Valid.{SettingKept, Numbered, Labelled, SettingSm
 use Rattle.model.proofs.ListLaws.{both-true, within-is, every-at, every-imp, every-image, every-getD, any-false}
 use Rattle.model.proofs.UptoLaws.{length-upto}
 use Rattle.model.proofs.FrameLaws.{field-below, signed-small}
-use Rattle.model.proofs.RefusalLaws.{done-same, checked-done, then-done, NoneApplies, first-passed, first-none, RulesMost, NumberMost, checked-most, then-most}
+use Rattle.model.proofs.RefusalLaws.{done-same, checked-done, then-done, NoneApplies, first-passed, first-none, RulesMost, NumberMost, checked-most, then-most, LineMost, checked-each, then-each}
 use Rattle.model.proofs.NumberLaws.{numbered-least, labelled-from}
 
 -- ---- the settings that a line gives
@@ -329,6 +330,27 @@ book-most bytes =
     let whole : List Settings → Result Problem = λ ls. done (problem line ls) in
     checked-most 8 1 (lineRule bytes ∷ headerRules line) (andThen rest whole) (omega arith, header-rules-most line)
     (then-most 8 rest whole (loads-most (slotCount line) (ratioIn line) (loadCount line) 2 (afterLine bytes)) (λ ls. tt))
+
+-- ---- and their lines are few, as N has two digits
+
+loads-lines : (m t r left number : ℕ) (bytes : List ℕ) → number + left ≤ m → LineMost m (readLoads t r left number bytes)
+unfolding readLoads
+loads-lines m t r zero number bytes h = checked-each (λ r line. line ≤ m) number (first (endRules bytes)) (done []) (λ r e. omega (arith, h)) tt
+loads-lines m t r (suc left) number bytes h =
+    let rest : Result (List Settings) = readLoads t r left (suc number) (afterLine bytes) in
+    let more : List Settings → Result (List Settings) = λ ls. done (settings t (lineOf bytes) ∷ ls) in
+    checked-each (λ r line. line ≤ m) number (first (lineRule bytes ∷ loadRules t r (lineOf bytes))) (andThen rest more) (λ r e. omega (arith, h))
+    (then-each (λ r line. line ≤ m) rest more (loads-lines m t r left (suc number) (afterLine bytes) (omega (arith, h))) (λ ls. tt))
+
+pub book-lines : (bytes : List ℕ) → LineMost 257 (readBook bytes)
+unfolding readBook
+book-lines bytes =
+    let line : List ℕ = lineOf bytes in
+    let rest : Result (List Settings) = readLoads (slotCount line) (ratioIn line) (loadCount line) 2 (afterLine bytes) in
+    let whole : List Settings → Result Problem = λ ls. done (problem line ls) in
+    checked-each (λ r line. line ≤ 257) 1 (first (lineRule bytes ∷ headerRules line)) (andThen rest whole) (λ r e. omega arith)
+    (then-each (λ r line. line ≤ 257) rest whole
+    (loads-lines 257 (slotCount line) (ratioIn line) (loadCount line) 2 (afterLine bytes) (omega (arith, field-below line 4 2))) (λ ls. tt))
 
 -- no sheet has more than 159 bytes
 pub sheet-few : (b : Problem) → ValidBook b → sheetLength b ≤ mostSheet

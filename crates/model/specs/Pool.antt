@@ -68,9 +68,13 @@ unfoldable pub headerLine : Problem → List ℕ
 headerLine p =
     digits 2 8 ++ digits 2 (T p) ++ digits 2 (N p) ++ digits 2 (p .fineness) ++ digits 2 (p .ratio) ++ digits 8 (p .budget) ++ concat (map (digits 4) (p .limits)) ++ lf
 
--- its bytes: "the load lines of the first as they stand, then those of the second"; past 8 these are all that stands after a book's header
-unfoldable pub pooledBytes : List ℕ → List ℕ → Mills → List ℕ
-pooledBytes one two m = headerLine (pooled m) ++ afterLine one ++ afterLine two
+-- its bytes: "the load lines of the first as they stand, then those of the second"
+unfoldable pub pooledWith : Mills → List ℕ → List ℕ → List ℕ
+pooledWith m lines others = headerLine (pooled m) ++ lines ++ others
+
+-- past 8 the load lines are all that stands after a book's header
+abbrev pub pooledBytes : List ℕ → List ℕ → Mills → List ℕ
+pooledBytes one two m = pooledWith m (afterLine one) (afterLine two)
 
 -- the result of the call, for a buffer with room for so many bytes: "and 11 after them if the pooled book doesn't fit the buffer"
 unfoldable pub poolResult : List ℕ → List ℕ → ℕ → Result Output

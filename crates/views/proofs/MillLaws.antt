@@ -3,7 +3,7 @@
 use Prim.Native.Nat.{ℕ, zero, suc, _+_, _-_, _*_, _≤_, _<_}
 use mathlib.Core.Path.{_≡_, refl, sym, ap, _∙_}
 use mathlib.Core.Bool.{cond, not}
-use mathlib.Core.List.{List, [], _++_, map, map-map, append-nil}
+use mathlib.Core.List.{List, [], _++_, map, map-map}
 use native.Mathlib.Omega.{arith}
 use lib.Dec.{eqb}
 use lib.ListN.{length, getD, set, length-append}
@@ -12,7 +12,6 @@ use Rattle.model.specs.Lists.{upto, uptoFrom, concat}
 use Rattle.model.specs.Frames.{digits}
 use Rattle.model.specs.Book.{Problem}
 use Rattle.model.specs.Choice.{Choice, levelOn, runningOn, worthOf}
-use Rattle.model.specs.Sheet.{lf}
 use Rattle.model.specs.Valid.{ValidBook}
 use Rattle.model.specs.Values.{Picked, choiceOf}
 use Rattle.model.specs.Views.{runningLoads, numberAndLevel, millLine}
@@ -20,8 +19,7 @@ use Rattle.model.proofs.ListLaws.{concat-keep}
 use Rattle.model.proofs.UptoLaws.{from-suc, pieces-last, map-same}
 use Rattle.model.proofs.FrameLaws.{length-digits}
 use Rattle.hex.specs.Written.{written}
-use Rattle.hex.proofs.WrittenLaws.{written-none, write-on}
-use Rattle.lines.proofs.LineLaws.{write-line}
+use Rattle.hex.proofs.WrittenLaws.{write-on, write-line-three}
 use Rattle.sheet.proofs.WriteLaws.{number-at, choice-length}
 use Rattle.views.specs.MillLine.{loadBytes, loadsBytes, millBytes}
 
@@ -91,9 +89,8 @@ pub line-written : (l l₁ l₂ l₃ picks : List ℕ) (worth n end : ℕ) → l
     → set l₃ end 10 ≡ written l 0 (millBytes worth picks n)
 unfolding millBytes
 line-written l l₁ l₂ l₃ picks worth n end a b c e room =
-    write-line l l₁ l₂ l₃ l₃ 0 2 10 end end (digits 2 9) (digits 8 worth) (loadsBytes picks n) [] a b c (sym (written-none l₃ end))
-    (rw length-digits (omega arith)) (rw length-digits (omega arith)) e (omega arith) (omega arith)
-    ∙ ap (λ r. written l 0 (r ++ lf)) (append-nil (digits 2 9 ++ digits 8 worth ++ loadsBytes picks n))
+    write-line-three l l₁ l₂ l₃ 2 10 end (digits 2 9) (digits 8 worth) (loadsBytes picks n) a b c
+    (rw length-digits (omega arith)) (rw length-digits (omega arith)) e (omega arith)
 
 -- ---- the line of the definitions
 
