@@ -30,6 +30,9 @@ static inline const char *refusal_word(uint64_t number)
     case JADESHUTTLE_TOO_MANY_BOOKS: return "too many books";
     case JADESHUTTLE_OUTPUT_TOO_LONG: return "too long";
     case JADESHUTTLE_TOO_COARSE: return "too coarse";
+    case JADESHUTTLE_SLOTS_OR_FINENESS_DIFFER: return "unlike";
+    case JADESHUTTLE_TOO_MANY_LOADS: return "too many loads";
+    case JADESHUTTLE_LIMIT_SUM_TOO_LARGE: return "limit too large";
     default: return "unknown";
     }
 }

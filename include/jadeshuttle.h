@@ -1,7 +1,8 @@
 /*
  * jadeshuttle.h - the load planner, for programs in C99 and C++.
  *
- * Each call takes a load book, or a day's books, and gives an answer by value:
+ * Each call takes a load book, two of them, or a day's books, and gives an answer by
+ * value:
  *
  *   jadeshuttle_plan        the planner: writes the sheet of the best plan
  *   jadeshuttle_plan_strict the strict planner: writes the sheet of a plan that
@@ -13,13 +14,15 @@
  *   jadeshuttle_mill_view   the mill's view: a sheet's worth, and what runs
  *   jadeshuttle_supply_view the supply company's view: a sheet's slot lines alone
  *   jadeshuttle_day         the day: plans up to 32 books in one call
+ *   jadeshuttle_pool        the pool: writes one book of the books of two mills
  *
  * docs/HANDBOOK.md describes the book and the sheet field by field, what the
  * limits mean for a relay, how large a work area a book needs, what a price is,
  * which loads to name for an order, what each party learns from its view, which
  * loads draw while standing or must run, what can be done where a book has no plan,
  * how a day's books are handed over and their output is read back, which motors need
- * a ratio above 1, and when to take the strict planner.
+ * a ratio above 1, when to take the strict planner, and what two mills on one
+ * transformer gain by a joint plan.
  *
  * THE BOOK  A header line of kind 01, or of kind 08 where it states a ratio r; then a
  * line for each load: of kind 02, of kind 06 for a load that draws while it stands, or
@@ -48,28 +51,29 @@
  * MEMORY THAT YOU LEND
  *   - A call uses the memory only until it returns. It keeps no pointer.
  *   - Lengths are in elements: bytes for a book, a day's books, a sheet, names, an
- *     order, a view and a day's output, 64-bit words for the work area, 16-bit numbers
- *     for prices.
+ *     order, a view, a day's output and a pooled book, 64-bit words for the work area,
+ *     16-bit numbers for prices.
  *   - No pointer may be NULL, not even where its length is 0. `work` is aligned
  *     as a uint64_t is, `prices` as a uint16_t.
  *   - All the bytes that a length names are yours to lend. No length names more
  *     than PTRDIFF_MAX bytes.
  *   - What is written may overlap nothing else: `work` and the planners' `sheet`
  *     lie apart from each other and from `book`, `work` and `out` from each other and
- *     from `books`, and `order` and `view` from all that the call reads. What is only
- *     read may overlap, so all that the sheet reader and the charge take.
- *   - `work`, the planners' `sheet`, `order`, `view` and `out` need no first values.
- *     No answer depends on them.
+ *     from `books`, and `order`, `view` and `pooled` from all that the call reads. What
+ *     is only read may overlap, so all that the sheet reader and the charge take, and
+ *     the two books of the pool.
+ *   - `work`, the planners' `sheet`, `order`, `view`, `out` and `pooled` need no first
+ *     values. No answer depends on them.
  *
  * The calls cannot test these points. Where one is broken, nothing is promised.
- * Of the values in book, books, sheet, prices and names, nothing is asked: every
- * input has an answer.
+ * Of the values in book, books, first, second, sheet, prices and names, nothing is
+ * asked: every input has an answer.
  *
  * WHAT A CALL LEAVES BEHIND
  *   - With a sheet (number 0): the first `bytes` bytes of the sheet buffer are the
  *     sheet. It is no C string: no 0 byte follows. The rest of the buffer keeps
- *     its values. The same holds for an order, a view or a day's output and its
- *     buffer.
+ *     its values. The same holds for an order, a view, a day's output or a pooled
+ *     book and its buffer.
  *   - With a refusal: no byte of the buffer changes. A day is refused with 18 or 19; a
  *     refused book of a day is a line of the output.
  *   - The work area: with a sheet, refusal 12 or refusal 17, the first 4 x cells
@@ -81,12 +85,12 @@
  *
  * THREADS  There is no state. Calls may run at the same time in several threads,
  * as long as each has its own memory to write: `work`, the planners' `sheet`,
- * `order`, `view`, and `out`. What is only read may be shared.
+ * `order`, `view`, `out`, and `pooled`. What is only read may be shared.
  *
  * STACK, HEAP  Nothing is allocated. Stack used by a call, as measured on x86-64
  * Linux: planner and strict planner up to 86 KiB, day up to 91 KiB, as its output waits
  * there until it is known to fit, quick planner up to 57 KiB, sheet reader, charge,
- * order and views up to 35 KiB. Leave 128 KiB of stack for a call.
+ * order, views and pool up to 35 KiB. Leave 128 KiB of stack for a call.
  *
  * ERRORS  A call always returns. It prints nothing, and sets no errno.
  */
@@ -101,7 +105,8 @@ extern "C" {
 #endif
 
 /* Bounds. Buffers of these sizes are large enough for every book and every day. */
-#define JADESHUTTLE_BOOK_MAX 3515     /* bytes of the longest book: header 08, T = 4, N = 24, lines 06 of three levels */
+#define JADESHUTTLE_BOOK_MAX 3515     /* bytes of the longest book, also of a pooled one: header 08, T = 4, N = 24,
+                                         lines 06 of three levels */
 #define JADESHUTTLE_SHEET_MAX 159     /* bytes of the longest sheet: 19 + 2N + 23T for N = 24, T = 4 */
 #define JADESHUTTLE_ORDER_MAX 24      /* bytes of the longest order: N = 24 */
 #define JADESHUTTLE_VIEW_MAX 107      /* bytes of the longest view: the mill's, 11 + 4N for N = 24 */
@@ -113,11 +118,13 @@ extern "C" {
 /*
  * What `number` says. Lines are read in order, and on each line 1 to 7 are tried
  * in this order, as far as they concern it; then 8 to 17, but the strict planner tries
- * 20 right after 8, and the 11 of an order or a view comes last. The first that applies
- * is given. `line` is the number of the line in the book, from 1, for 1 to 8; it is 0
- * for success and from 9 on. The day answers only 18, and then 19: what its books are
- * refused with, 1 to 10, 12 and 17, stands in its output. Each comment begins with the
- * handbook's word.
+ * 20 right after 8, and the 11 of an order or a view comes last. The pool tries 1 to 8
+ * through its first book, then through its second, then 21 to 23, and 11 last. The
+ * first that applies is given. `line` is the number of the line in the book, from 1,
+ * for 1 to 8, and in the pool's second book it counts on from the first's last line; it
+ * is 0 for success and from 9 on. The day answers only 18, and then 19: what its books
+ * are refused with, 1 to 10, 12 and 17, stands in its output. Each comment begins with
+ * the handbook's word.
  */
 enum jadeshuttle_number {
     JADESHUTTLE_SUCCESS = 0,
@@ -133,8 +140,8 @@ enum jadeshuttle_number {
     /* The planner and the strict planner. */
     JADESHUTTLE_TOO_MANY_CELLS = 9,  /* oversize: cells over 1,048,576 */
     JADESHUTTLE_WORK_TOO_SMALL = 10, /* cramped: work area under 4 x cells words */
-    /* The three planners, the order and the views. */
-    JADESHUTTLE_BUFFER_TOO_SMALL = 11, /* no sheet: buffer shorter than the sheet, the order or the view */
+    /* The three planners, the order, the views and the pool. */
+    JADESHUTTLE_BUFFER_TOO_SMALL = 11, /* no sheet: buffer shorter than the sheet, order, view or pooled book */
     /* The planner and the strict planner. */
     JADESHUTTLE_BUDGET_EXCEEDED = 12, /* spent: trials over the budget */
     /* The sheet reader, the charge, the order and the views. */
@@ -151,16 +158,20 @@ enum jadeshuttle_number {
     JADESHUTTLE_TOO_MANY_BOOKS = 18,  /* too many books: more than 32 */
     JADESHUTTLE_OUTPUT_TOO_LONG = 19, /* too long: the output is longer than the buffer */
     /* The strict planner only. */
-    JADESHUTTLE_TOO_COARSE = 20 /* too coarse: d is 1 */
+    JADESHUTTLE_TOO_COARSE = 20, /* too coarse: d is 1 */
+    /* The pool only. */
+    JADESHUTTLE_SLOTS_OR_FINENESS_DIFFER = 21, /* unlike: T or d of the two books differ */
+    JADESHUTTLE_TOO_MANY_LOADS = 22,           /* too many loads: the two books have over 24 together */
+    JADESHUTTLE_LIMIT_SUM_TOO_LARGE = 23       /* limit too large: the two limits of a slot are over 65,535 together */
 };
 
-/* What the planners, the views and the day answer. With a refusal, bytes, worth and trials are 0. */
+/* What the planners, the views, the day and the pool answer. With a refusal, bytes, worth and trials are 0. */
 typedef struct jadeshuttle_answer {
     uint64_t number; /* 0, or the refusal's number */
-    uint64_t line;   /* the refused line of the book, or 0; for a day, 0 */
-    uint64_t bytes;  /* bytes of the sheet, the view or the day's output that were written */
-    uint64_t worth;  /* worth of the sheet's choice; for a view or a day, 0 */
-    uint64_t trials; /* the book's trials; for the quick planner, N; for a view or a day, 0 */
+    uint64_t line;   /* the refused line of the book, or 0; for a day, 0; for the pool, counted through both books */
+    uint64_t bytes;  /* bytes of the sheet, the view, the day's output or the pooled book that were written */
+    uint64_t worth;  /* worth of the sheet's choice; for a view, a day or the pool, 0 */
+    uint64_t trials; /* the book's trials; for the quick planner, N; for a view, a day or the pool, 0 */
 } jadeshuttle_answer;
 
 /* What the sheet reader answers. With a refusal, all after line is 0. */
@@ -402,6 +413,40 @@ jadeshuttle_answer jadeshuttle_supply_view(const uint8_t *book, size_t book_len,
 jadeshuttle_answer jadeshuttle_day(const uint8_t *books, size_t books_len,
                                    uint64_t *work, size_t work_len,
                                    uint8_t *out, size_t out_len);
+
+/*
+ * The pool: two mills on one transformer. Writes one book of two: a header of kind 08,
+ * always, with the T and the d that both have, the number of all loads, the larger r,
+ * the larger budget, and for each slot the sum of the two limits; then the load lines of
+ * `first` as they stand, digit for digit, and then those of `second`. With N1 the number
+ * of the first's loads, load k of the second is load N1 + k of the pooled book: on its
+ * sheets the levels of the first mill come first, and then those of the second.
+ *
+ * Every call takes the pooled book as any other. Plan it for a joint plan; pool it with
+ * the book of a third mill.
+ *
+ * Gives 1 to 8 for the first book, all of them before anything of the second; then 1 to
+ * 8 for the second, whose lines count on from the first's last: its line j is line
+ * N1 + 1 + j, and its 8, with N2 loads, is at N1 + N2 + 3; then 21, 22, 23, and last 11.
+ * JADESHUTTLE_BOOK_MAX bytes always suffice: with them 11 is not given.
+ *
+ * Of every pooled book:
+ *   - it is read, with no refusal of 1 to 8, and says what is said above;
+ *   - where one choice keeps P*P + Q*Q <= S*S in every slot of the first book, and
+ *     another in every slot of the second, each sheet that jadeshuttle_plan gives for
+ *     the pooled book is worth at least both together, and it does not give 17 for it.
+ * The sheets of jadeshuttle_plan_strict and jadeshuttle_quick for the two books are of
+ * such choices. Those of jadeshuttle_plan may exceed a limit, and then they are not.
+ *
+ * NOT PROMISED  Nothing is said about each mill by itself. What jadeshuttle_plan
+ * promises of the apparent power is of the summed limits, so a joint plan may have one
+ * mill draw more than its own limit. Where each mill has a relay of its own that trips
+ * at that limit, do not pool. And the pooled book may be oversize (9), need more words
+ * (10) or have more trials than the larger budget (12), though neither book does alone.
+ */
+jadeshuttle_answer jadeshuttle_pool(const uint8_t *first, size_t first_len,
+                                    const uint8_t *second, size_t second_len,
+                                    uint8_t *pooled, size_t pooled_len);
 
 #ifdef __cplusplus
 }

@@ -85,14 +85,16 @@ pub enum Function {
     MillView,
     SupplyView,
     Day,
+    Pool,
 }
 
-/// A function and what it is given; what it does not take is empty. `book` is a book, or a day's books; `sheet` is a sheet that
-/// is read, or the buffer; `planned` is the order's new sheet, or the sheet that a view shows.
+/// A function and what it is given; what it does not take is empty. `book` is a book, the first of two, or a day's books; `sheet`
+/// is a sheet that is read, or the buffer; `planned` is the order's new sheet, or the sheet that a view shows.
 #[derive(Clone, Copy)]
 pub struct Input<'a> {
     pub function: Function,
     pub book: &'a [u8],
+    pub second: &'a [u8],
     pub words: &'a [u64],
     pub sheet: &'a [u8],
     pub prices: &'a [u16],
@@ -121,6 +123,7 @@ impl<'a> Input<'a> {
         Input {
             function: Function::Quick,
             book,
+            second: &[],
             words: &[],
             sheet,
             prices: &[],
@@ -176,6 +179,14 @@ impl<'a> Input<'a> {
             ..Input::plan(books, words, buffer)
         }
     }
+
+    pub fn pool(first: &'a [u8], second: &'a [u8], buffer: &'a [u8]) -> Input<'a> {
+        Input {
+            function: Function::Pool,
+            second,
+            ..Input::quick(first, buffer)
+        }
+    }
 }
 
 /// A call that was made, and all memory that it could reach.
@@ -183,6 +194,7 @@ impl<'a> Input<'a> {
 pub struct Call {
     pub function: Function,
     pub book: Lent<u8>,
+    pub second: Lent<u8>,
     pub work: Lent<u64>,
     pub sheet: Lent<u8>,
     pub prices: Lent<u16>,
@@ -202,6 +214,7 @@ impl Call {
         let running = Lent::new(random, input.running, plausible);
         let planned = Lent::new(random, input.planned, plausible);
         let names = Lent::new(random, input.names, |random| random.below(25) as u8);
+        let second = Lent::new(random, input.second, plausible);
         let answer = match input.function {
             Function::Plan => crate::plan(book.part(), work.part_mut(), sheet.part_mut()).into(),
             Function::PlanStrict => crate::plan_strict(book.part(), work.part_mut(), sheet.part_mut()).into(),
@@ -215,10 +228,12 @@ impl Call {
             Function::MillView => crate::mill_view(book.part(), planned.part(), sheet.part_mut()).into(),
             Function::SupplyView => crate::supply_view(book.part(), planned.part(), sheet.part_mut()).into(),
             Function::Day => crate::day(book.part(), work.part_mut(), sheet.part_mut()).into(),
+            Function::Pool => crate::pool(book.part(), second.part(), sheet.part_mut()).into(),
         };
         Call {
             function: input.function,
             book,
+            second,
             work,
             sheet,
             prices,
@@ -231,8 +246,10 @@ impl Call {
 
     /// Whether everything that is lent has guards.
     pub fn has_guards(&self) -> bool {
-        let bytes = [&self.book, &self.sheet, &self.running, &self.planned, &self.names];
-        bytes.into_iter().all(Lent::has_guards) && self.work.has_guards() && self.prices.has_guards()
+        let books = [&self.book, &self.second];
+        let bytes = [&self.sheet, &self.running, &self.planned, &self.names];
+        let all = books.into_iter().chain(bytes).all(Lent::has_guards);
+        all && self.work.has_guards() && self.prices.has_guards()
     }
 
     /// The answer, and the bytes that it says were written.
@@ -263,6 +280,7 @@ impl Call {
         }
         let changes = [
             ("book", self.book.change(0)),
+            ("second book", self.second.change(0)),
             ("sheet or buffer", self.sheet.change(written)),
             ("work area", self.work.change(expected.free_words)),
             ("prices", self.prices.change(0)),
@@ -295,6 +313,10 @@ impl Call {
             ),
             Function::MillView | Function::SupplyView => {
                 format!("{start}, sheet \"{planned}\", buffer of {bytes}")
+            }
+            Function::Pool => {
+                let second = self.second.part().escape_ascii();
+                format!("{start}, second \"{second}\", buffer of {bytes}")
             }
         }
     }

@@ -1,12 +1,13 @@
 //! Random valid books, the twin of a book, the longest book, a book with the longest sheet and views, and the bytes of a book;
-//! days of books, books at the ratio that they state, and books whose powers share steps, in modules of their own.
+//! days of books, pairs of books, books at the ratio that they state, and books whose powers share steps, in modules of their own.
 
 pub mod days;
+pub mod pairs;
 pub mod ratios;
 pub mod steps;
 
 use crate::random::Random;
-use crate::reference::book::{Book, Level, Load};
+use crate::reference::book::{header_text, Book, Level, Load};
 use crate::reference::ratio::{self, Ratio};
 use crate::reference::standing::Standing;
 use crate::reference::{grid, MOST_CELLS};
@@ -80,7 +81,7 @@ pub fn too_many_cells(random: &mut Random) -> Book {
     loop {
         let header = match random.below(4) {
             0 => fuller_table(random),
-            _ => loose_header(random),
+            _ => loose_header(random, LOOSE),
         };
         if header.cells() > MOST_CELLS {
             return filled(random, &header);
@@ -88,13 +89,14 @@ pub fn too_many_cells(random: &mut Random) -> Book {
     }
 }
 
-fn loose_header(random: &mut Random) -> Header {
+/// A header of any T, d and limits, whatever the cells.
+fn loose_header(random: &mut Random, bounds: Bounds) -> Header {
     let slots = 1 + random.below(4);
     Header {
-        ratio: random.pick(LOOSE.ratios),
+        ratio: random.pick(bounds.ratios),
         fineness: random.within(1..=64) as u64,
         limits: (0..slots).map(|_| limit(random)).collect(),
-        options: options(random, LOOSE),
+        options: options(random, bounds),
     }
 }
 
@@ -518,19 +520,7 @@ pub fn longest_views() -> Book {
 
 /// The bytes of a book.
 pub fn text(book: &Book) -> Vec<u8> {
-    let (slots, loads) = (book.limits.len(), book.loads.len());
-    let (kind, ratio) = match book.ratio {
-        None => ("01", String::new()),
-        Some(r) => ("08", format!("{r:02X}")),
-    };
-    let mut text = format!(
-        "{kind}{slots:02X}{loads:02X}{:02X}{ratio}{:08X}",
-        book.fineness, book.budget
-    );
-    for limit in &book.limits {
-        text += &format!("{limit:04X}");
-    }
-    text += "\n";
+    let mut text = header_text(book);
     for load in &book.loads {
         let (kind, standing) = match &load.standing {
             None if load.must_run => ("07", String::new()),

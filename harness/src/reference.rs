@@ -7,6 +7,7 @@ pub mod grid;
 pub mod must_run;
 pub mod order;
 pub mod plan;
+pub mod pool;
 pub mod quick;
 pub mod ratio;
 pub mod sheet;
@@ -223,6 +224,7 @@ impl Case {
             Function::MillView => self.mill_view(input.planned, input.sheet.len()),
             Function::SupplyView => self.supply_view(input.planned, input.sheet.len()),
             Function::Day => self.day(input.words.len(), input.sheet.len()),
+            Function::Pool => self.pool(input.second, input.sheet.len()),
         }
     }
 
@@ -343,6 +345,11 @@ impl Case {
         day::of(&self.books(), words, buffer)
     }
 
+    /// This book pooled with a second.
+    pub fn pool(&self, second: &[u8], buffer: usize) -> Outcome {
+        pool::of(self, second, buffer).unwrap_or_else(refused::<0>)
+    }
+
     /// The book, after refusals 1 to 8.
     fn read(&self) -> Result<&Book, Refusal> {
         self.book.as_ref().map_err(|refusal| *refusal)
@@ -362,7 +369,7 @@ fn refuse_if(applies: bool, number: u64) -> Result<(), Refusal> {
 }
 
 /// A refusal of a call whose answer has so many numbers after the first five: they are 0.
-fn refused<const FURTHER: usize>(refusal: Refusal) -> Outcome {
+pub fn refused<const FURTHER: usize>(refusal: Refusal) -> Outcome {
     let first = Answer {
         number: refusal.number,
         line: refusal.line,
@@ -394,9 +401,9 @@ pub fn written(book: &Book, choice: &[usize], trials: u64) -> Outcome {
     }
 }
 
-/// An order, a view or a day's output, and the numbers after the first five; a refusal with this number where it is longer than
-/// the buffer.
-fn fitting(bytes: Vec<u8>, buffer: usize, number: u64, further: Vec<u64>) -> Result<Outcome, Refusal> {
+/// An order, a view, a day's output or a pooled book, and the numbers after the first five; a refusal with this number where it is
+/// longer than the buffer.
+pub fn fitting(bytes: Vec<u8>, buffer: usize, number: u64, further: Vec<u64>) -> Result<Outcome, Refusal> {
     refuse_if(buffer < bytes.len(), number)?;
     let first = Answer {
         bytes: bytes.len() as u64,

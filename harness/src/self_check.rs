@@ -3,6 +3,7 @@
 //! reference in each of its calls, is one check.
 
 mod days;
+mod pool;
 mod ratios;
 mod strict;
 
@@ -97,6 +98,8 @@ const MEMORY: &[Alteration] = &[
     ("book byte", |call| call.book.flip(0)),
     ("byte before the book", |call| call.book.flip(-1)),
     ("byte past the book", |call| call.book.flip_from_end(0)),
+    ("byte before the second book", |call| call.second.flip(-1)),
+    ("byte past the second book", |call| call.second.flip_from_end(0)),
     ("price before the prices", |call| call.prices.flip(-1)),
     ("price past the prices", |call| call.prices.flip_from_end(0)),
     ("byte before the running sheet", |call| call.running.flip(-1)),
@@ -105,6 +108,12 @@ const MEMORY: &[Alteration] = &[
     ("byte past the new sheet", |call| call.planned.flip_from_end(0)),
     ("byte before the names", |call| call.names.flip(-1)),
     ("byte past the names", |call| call.names.flip_from_end(0)),
+];
+
+/// For the pool alone.
+const SECOND_BOOK: &[Alteration] = &[
+    ("first byte of the second book", |call| call.second.flip(0)),
+    ("last byte of the second book", |call| call.second.flip_from_end(-1)),
 ];
 
 /// For the charge alone.
@@ -263,6 +272,15 @@ fn succeeded(call: &mut Call, worth: u64, trials: u64, written: &[u8]) {
     };
 }
 
+/// Makes a refusal of the call.
+fn refuse(call: &mut Call, number: u64, line: u64) {
+    call.answer.first = Answer {
+        number,
+        line,
+        ..Answer::default()
+    };
+}
+
 /// Counts of checks, and a line for each that failed.
 #[derive(Default)]
 pub struct Checks {
@@ -300,6 +318,7 @@ pub fn run() -> Checks {
         ratios::plan_bases(),
         ratios::sheet_bases(),
         strict::bases(),
+        pool::bases(),
     ];
     for base in bases.iter().chain(&later_bases).flatten() {
         check_base(&mut checks, base);
@@ -308,6 +327,7 @@ pub fn run() -> Checks {
         check_session(&mut checks, name, *alter);
     }
     strict::check_promises(&mut checks);
+    pool::check_promises(&mut checks);
     for (books, mistakes) in GROUPS {
         check_reference(&mut checks, books, &NO_MISTAKE, false);
         for mistake in mistakes.iter().copied().flatten() {
@@ -328,6 +348,7 @@ fn check_base(checks: &mut Checks, base: &Base) {
         Function::MillView => &[SHOWN, MILL],
         Function::SupplyView => &[SHOWN, SUPPLY],
         Function::Day => &[KEPT_WORDS],
+        Function::Pool => &[SECOND_BOOK],
     };
     let more = more.iter().copied().flatten().chain(base.own);
     for alteration in FIELDS.iter().chain(MEMORY).chain(more) {
@@ -361,9 +382,19 @@ const GROUPS: &[(Books, &[&[Mistake]])] = &[
     (strict::COARSE_BOOKS, &[strict::COARSE_MISTAKES]),
     (strict::FAULTY_BOOKS, &[strict::FAULT_MISTAKES]),
     (days::DAYS, &[days::PARTING_MISTAKES, days::ANSWER_MISTAKES]),
+    (
+        pool::FIRST_BOOKS,
+        &[
+            pool::HEADER_MISTAKES,
+            pool::LINE_MISTAKES,
+            pool::RULE_MISTAKES,
+            pool::FAULT_MISTAKES,
+        ],
+    ),
+    (pool::FAULTY_BOOKS, &[pool::ORDER_MISTAKES]),
 ];
 
-/// The planners, then the calls that take a sheet, then the day.
+/// The planners, then the calls that take a sheet, then the day and the pool.
 const EVERY: &[Function] = &[
     Function::Plan,
     Function::PlanStrict,
@@ -374,11 +405,13 @@ const EVERY: &[Function] = &[
     Function::MillView,
     Function::SupplyView,
     Function::Day,
+    Function::Pool,
 ];
 
 const PLANNERS: &[Function] = EVERY.split_at(3).0;
 const READERS: &[Function] = EVERY.split_at(3).1.split_at(5).0;
 const DAY: &[Function] = &[Function::Day];
+const POOL: &[Function] = &[Function::Pool];
 const PLAN: &[Function] = &[Function::Plan];
 const STRICT: &[Function] = &[Function::PlanStrict];
 const PLAN_STRICT_AND_DAY: &[Function] = &[Function::Plan, Function::PlanStrict, Function::Day];
@@ -542,9 +575,9 @@ fn check_reference(checks: &mut Checks, (books, draw): &Books, (name, functions,
     }
 }
 
-/// Whether this call on the book, or on a day's books, differs from a reference. The planners have a buffer that suffices and
-/// one that does not, and those with a work area also just the words that they need, and one less; on the sheets, loads that must
-/// run may stand.
+/// Whether this call on the book, or on a day's books, or on the book and a second, differs from a reference. The planners have a
+/// buffer that suffices and one that does not, and those with a work area also just the words that they need, and one less; on the
+/// sheets, loads that must run may stand.
 fn differs(random: &mut Random, case: &Case, function: Function, reference: fn(&Case, Input) -> Outcome) -> bool {
     let text = &case.text;
     let (words, room) = (vec![7; 4 * SMALL.cells as usize], [0; DAY_MAX]);
@@ -572,14 +605,19 @@ fn differs(random: &mut Random, case: &Case, function: Function, reference: fn(&
         Input::mill_view(text, &planned, free),
         Input::supply_view(text, &planned, free),
     ];
-    let with_words: Vec<Input> = match function {
+    let seconds = match function {
+        Function::Pool => pool::seconds(random, case),
+        _ => Vec::new(),
+    };
+    let further: Vec<Input> = match function {
         Function::Plan => lent.map(|(words, sheet)| Input::plan(text, words, sheet)).into(),
         Function::PlanStrict => lent.map(|(words, sheet)| Input::plan_strict(text, words, sheet)).into(),
         Function::Day => days::inputs(random, case, &words, &room),
+        Function::Pool => pool::inputs(case, &seconds, &room),
         _ => Vec::new(),
     };
-    let without = inputs.into_iter().filter(|input| input.function == function);
-    let mut made = without.chain(with_words);
+    let single = inputs.into_iter().filter(|input| input.function == function);
+    let mut made = single.chain(further);
     made.any(|input| {
         let complaints = Call::new(random, input).complaints(&reference(case, input));
         !complaints.is_empty()
@@ -615,6 +653,13 @@ fn of_most_worth(book: &Book) -> Vec<usize> {
             .expect("a load has an option")
     };
     book.loads.iter().map(best).collect()
+}
+
+/// What a call has to leave, with another answer.
+fn changed(case: &Case, input: Input, change: fn(&Case, &mut Answer)) -> Outcome {
+    let mut outcome = case.outcome(input);
+    change(case, &mut outcome.answer.first);
+    outcome
 }
 
 /// What a call has to leave where this is the plan.

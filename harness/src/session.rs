@@ -2,14 +2,14 @@
 
 use crate::call::{Call, Function, Input};
 use crate::random::Random;
-use crate::reference::{Case, Outcome};
+use crate::reference::{pool, Case, Outcome};
 use crate::NUMBERS;
 
 /// How many differences are kept for printing.
 const MOST_DIFFERENCES: usize = 20;
 
 /// The functions with their names, in the order of `enum Function`.
-const FUNCTIONS: [(Function, &str); 9] = [
+const FUNCTIONS: [(Function, &str); 10] = [
     (Function::Plan, "plan"),
     (Function::PlanStrict, "plan_strict"),
     (Function::Quick, "quick"),
@@ -19,6 +19,7 @@ const FUNCTIONS: [(Function, &str); 9] = [
     (Function::MillView, "mill_view"),
     (Function::SupplyView, "supply_view"),
     (Function::Day, "day"),
+    (Function::Pool, "pool"),
 ];
 
 pub struct Session {
@@ -151,6 +152,27 @@ impl Session {
     pub fn day_leaving(&mut self, expected: &Outcome, case: &Case, words: usize, buffer: usize) {
         let (words, buffer) = (self.words(words), self.bytes(buffer));
         self.call_leaving(expected, case, Input::day(&case.text, &words, &buffer));
+    }
+
+    /// The pool of two books, with so many bytes lent for the pooled one.
+    pub fn pool(&mut self, first: &Case, second: &[u8], buffer: usize) -> Call {
+        self.pool_leaving(&first.pool(second, buffer), first, second, buffer)
+    }
+
+    /// The pool of two books, which has to leave this.
+    pub fn pool_leaving(&mut self, expected: &Outcome, first: &Case, second: &[u8], buffer: usize) -> Call {
+        let buffer = self.bytes(buffer);
+        self.call_leaving(expected, first, Input::pool(&first.text, second, &buffer))
+    }
+
+    /// The planner on a pooled book, whose plan has to keep M-110's promise: `both` is what two choices are worth together that keep
+    /// every limit in the one book and in the other, where there are such.
+    pub fn plan_pooled(&mut self, case: &Case, both: Option<u64>, words: usize, buffer: usize) {
+        let (words, sheet) = (self.words(words), self.bytes(buffer));
+        let input = Input::plan(&case.text, &words, &sheet);
+        self.call_keeping(&case.outcome(input), case, input, |call| {
+            pool::broken(both, &call.answer.first)
+        });
     }
 
     /// A call on two books that mean the same: both have to leave what the first has to.

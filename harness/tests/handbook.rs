@@ -27,8 +27,12 @@ const PROVED_BOOKS: [&str; 6] = [
 /// Books of which the handbook says that what the planner and the strict planner answer is proved.
 const PROVED_STRICTLY: [&str; 2] = ["examples/close.book", "examples/step.book"];
 
-/// The words and the bytes that the proved table lends the strict planner there.
+/// Two books and their pooled book, of which the handbook says that this, and what the planner answers to each, is proved.
+const PROVED_POOLED: [&str; 3] = ["examples/north.book", "examples/south.book", "examples/joint.book"];
+
+/// The words that the proved table lends the strict planner, and the planner for a pooled book; and the bytes that it lends both.
 const WORDS: usize = 6_144;
+const MORE_WORDS: usize = 65_536;
 const ROOM: usize = 4_096;
 
 /// Folders of the project whose files the handbook names.
@@ -76,6 +80,12 @@ fn read(trials: &mut Trials) -> Verdict {
             || proved_strict(book),
         );
     }
+    let [first, second, pooled] = PROVED_POOLED;
+    for book in [first, second] {
+        trials.check(&format!("{book} is a row of the proved table"), || proved_print(book));
+    }
+    trials.check(&format!("{pooled} is a row of the proved table"), || proved_plan(pooled));
+    trials.check("the pooled book is a row of the proved table", proved_pool);
     trials.check(&format!("{HANDBOOK} names no path that is missing"), || {
         paths(&handbook)
     });
@@ -216,6 +226,21 @@ fn proved_strict(book: &str) -> Verdict {
     let answer = harness::plan_strict(&text, &mut [0; WORDS], &mut sheet);
     let (numbers, printed) = shown(answer, &sheet);
     proved(&[format!("strictly {name} {numbers} {printed}\n")])
+}
+
+/// A row by the book's name has the planner's answer, its numbers and what the program would print of it.
+fn proved_plan(book: &str) -> Verdict {
+    let (name, text) = (name_of(book)?, project::bytes(book)?);
+    let mut sheet = [0; ROOM];
+    let answer = harness::plan(&text, &mut vec![0; MORE_WORDS], &mut sheet);
+    let (numbers, printed) = shown(answer, &sheet);
+    proved(&[format!("plans {name} {numbers} {printed}\n")])
+}
+
+/// A row by the books' names has the pooled book.
+fn proved_pool() -> Verdict {
+    let [first, second, pooled] = PROVED_POOLED.map(name_of);
+    proved(&[format!("pools {} {} {}\n", first?, second?, pooled?)])
 }
 
 /// An answer's numbers as a list, and what the program would print of it, as the proved table has both.

@@ -1,5 +1,5 @@
 //! The C header and the examples: compares `include/jadeshuttle.h` with the Rattle source, compiles it and the examples as C99
-//! and as C++17, and plans every example's book and day.
+//! and as C++17, plans every example's book and day, and pools the books of two mills.
 
 use harness::abi::{self, Call, Parsed, Source, Struct, Type};
 use harness::project::{self, same, silent};
@@ -17,6 +17,14 @@ const PLANNED: [(&str, &str, &str); 2] = [
 
 /// How the names of the strict planner's sheets end, and of their books; and the example's word for that planner.
 const STRICT: (&str, &str, &str, &str) = ("-strict.sheet", ".book", "examples/plan.c", "-s");
+
+/// The books of two mills, their pooled book, and the example that pools them.
+const POOLED: [&str; 4] = [
+    "examples/north.book",
+    "examples/south.book",
+    "examples/joint.book",
+    "examples/pool.cpp",
+];
 
 const WARNINGS: [&str; 6] = ["-pedantic", "-Wall", "-Wextra", "-Werror", "-O2", "-Iinclude"];
 
@@ -250,6 +258,11 @@ fn examples(trials: &mut Trials, scratch: &Path) -> Verdict {
             same(project::bytes(&due)?, printed)
         });
     }
+    let [first, second, due, source] = POOLED;
+    trials.check(&format!("{first} and {second} give {due}"), || {
+        let (_, printed) = project::run(Command::new(build(source, scratch)?).args([first, second]))?;
+        same(project::bytes(due)?, printed)
+    });
     Ok(())
 }
 

@@ -621,6 +621,20 @@ abbrev loadLines : ℕ → String
 loadLines zero = ""
 loadLines (suc n) = joined "0201000100010000\n" (loadLines n)
 
+-- the handbook's two mills, and their books pooled
+abbrev north : String
+north = "0101020500000064000A\n0201000900060004\n0201000500040003\n"
+
+abbrev south : String
+south = "080103050200000014000A\n0201000600040007\n020100030004FFF9\n0201000500090002\n"
+
+abbrev joint : String
+joint = "0801050502000000640014\n0201000900060004\n0201000500040003\n0201000600040007\n020100030004FFF9\n0201000500090002\n"
+
+-- the planner's answer to a book, with words and room to spare
+abbrev plans : String → List ℕ → String → Row
+plans book numbers out = shows (λ bytes none room. plannerResult bytes 65_536 room) (bytesOf book) [] 4096 numbers out
+
 -- of two mills' books pooled (M-110). The rows that the nearest mistakes break stand first, so that they show as false, and plans stand last.
 unfoldable pub poolRows : List Row
 poolRows =
@@ -693,6 +707,11 @@ poolRows =
     ∷ prints bank "04000000000000000200\n0500000000000000000005\n"
     ∷ pools motor bank "080102050100000064000A\n0201000500040004\n020100040004FFFC\n"
     ∷ prints "080102050100000064000A\n0201000500040004\n020100040004FFFC\n" "0400000009000000060101\n050000000800000000000A\n"
+    -- and so in the handbook's pair: 9 and 9 alone, 23 pooled
+    ∷ pools north south joint
+    ∷ prints north "0400000009000000060100\n050000000600000004000A\n"
+    ∷ prints south "04000000090000000E010100\n050000000800000000000A\n"
+    ∷ plans joint (0 ∷ 0 ∷ 52 ∷ 23 ∷ 62 ∷ []) "04000000170000003E0101010100\n0500000012000000070014\n"
     ∷ []
 
 -- of sheets: charges, orders of starting and views, the longest book last

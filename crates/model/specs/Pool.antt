@@ -101,7 +101,7 @@ pub record BothKeep (m : Mills) (c d : Choice) : Type 0 where
   pub of-second : IsChoice (m .b .loads) d
   pub keeps-second : KeepsLimits (m .b) d
 
--- WHAT HOLDS of two books' bytes and the bytes that pooling wrote (proofs/PoolLaws, `pooled-given`)
+-- WHAT HOLDS of two books' bytes and the bytes that pooling wrote (proofs/JointLaws, `pooled-given`)
 pub record Pooled (one two bytes : List ℕ) : Type 0 where
   -- both books as they are read, and the pooled one
   pub mills : Mills

@@ -5,7 +5,7 @@ use crate::damage::fault;
 use crate::draw::{self, ratios, steps, Bounds};
 use crate::random::Random;
 use crate::reference::book::Book;
-use crate::reference::{grid, plan, quick, Case, MOST_CELLS};
+use crate::reference::{grid, quick, Case, MOST_CELLS};
 use crate::session::Session;
 
 /// Books of the finest d.
@@ -50,22 +50,17 @@ pub fn not_compared(session: &mut Session) {
     let shared = |random: &mut Random| steps::shared(random, FINE);
     let cases = [
         found(session, shared, |case, book| {
-            case.strict().is_none() && best_that_fits(book).is_some()
+            case.strict().is_none() && quick::best_that_fits(book).is_some()
         }),
         found(session, shared, |case, book| {
             let worth = case.strict().map(|plan| plan.worth);
-            worth.is_some() && worth < best_that_fits(book)
+            worth.is_some() && worth < quick::best_that_fits(book)
         }),
     ];
     for case in &cases {
         all_calls(session, case);
         all_shortages(session, case);
     }
-}
-
-/// The greatest worth of the choices that keep the limits, whether or not they are compared.
-fn best_that_fits(book: &Book) -> Option<u64> {
-    plan::best_where(book, |choice| quick::fits(book, choice)).map(|plan| plan.worth)
 }
 
 /// d = 1 (20), alone and with each other fault: 1 to 8 come before it; 9 to 12, and 17 where no choice is admitted, after it.

@@ -143,6 +143,18 @@ pub fn read_where(bytes: &[u8], holds: impl Fn(&Load, i64) -> bool) -> Result<Bo
     }
 }
 
+/// The header of a book as text, with its LF; of kind `08` where the book states a ratio.
+pub fn header_text(book: &Book) -> String {
+    let (slots, loads) = (book.limits.len(), book.loads.len());
+    let (kind, ratio) = match book.ratio {
+        None => ("01", String::new()),
+        Some(r) => ("08", format!("{r:02X}")),
+    };
+    let start = format!("{kind}{slots:02X}{loads:02X}{:02X}{ratio}", book.fineness);
+    let limits: String = book.limits.iter().map(|limit| format!("{limit:04X}")).collect();
+    format!("{start}{:08X}{limits}\n", book.budget)
+}
+
 /// A line without its LF; all bytes are digits, four or more.
 struct Line<'a> {
     number: u64,

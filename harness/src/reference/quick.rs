@@ -2,7 +2,7 @@
 //! loads that must run are at option 1 from the start, and trying them changes nothing.
 
 use super::book::Book;
-use super::must_run;
+use super::{must_run, plan};
 
 /// The choice that the quick planner makes: option 1 or standing for each load; none where what it begins with breaks a limit.
 pub fn choice(book: &Book) -> Option<Vec<usize>> {
@@ -44,4 +44,9 @@ pub fn fits(book: &Book, choice: &[usize]) -> bool {
         let (p, q) = book.sums(choice, slot);
         p * p + q * q <= limit * limit
     })
+}
+
+/// The greatest worth of the choices that keep the limits, if there is one.
+pub fn best_that_fits(book: &Book) -> Option<u64> {
+    plan::best_where(book, |choice| fits(book, choice)).map(|plan| plan.worth)
 }

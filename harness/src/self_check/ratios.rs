@@ -1,10 +1,11 @@
 //! Books that state a ratio: calls that are altered, and references with M-108's mistakes.
 
 use super::{
-    base, book_of, of_own, plan_base, quick_base, quick_sheet, read_where, succeeded, with_plan, with_some_budget,
-    Alteration, Base, Books, Mistake, BENCH_QUICK, BENCH_SHEET, BUFFER, EVERY, NEED, PLAN, PLAN_STRICT_AND_DAY, QUICK,
+    base, book_of, of_own, plan_base, quick_base, quick_sheet, read_where, refuse, succeeded, with_plan,
+    with_some_budget, Alteration, Base, Books, Mistake, BENCH_QUICK, BENCH_SHEET, BUFFER, EVERY, NEED, PLAN,
+    PLAN_STRICT_AND_DAY, QUICK,
 };
-use crate::call::{Call, Input};
+use crate::call::Input;
 use crate::damage::fault_at;
 use crate::draw::{self, ratios};
 use crate::kinds::SMALL;
@@ -18,9 +19,9 @@ const REST: &[u8] = EXAMPLE.split_at(8).1;
 
 /// For a book that is read.
 const REFUSED: &[Alteration] = &[
-    ("a header of kind 08 refused", |call| refused(call, 3, 1)),
-    ("r refused", |call| refused(call, 6, 1)),
-    ("slack refused", |call| refused(call, 7, 2)),
+    ("a header of kind 08 refused", |call| refuse(call, 3, 1)),
+    ("r refused", |call| refuse(call, 6, 1)),
+    ("slack refused", |call| refuse(call, 7, 2)),
 ];
 
 /// For the bench book with r = 3, which needs more words than are lent.
@@ -34,7 +35,7 @@ const FEWER_CELLS_IN_A_DAY: &[Alteration] = &[("cells of r = 1", |call| succeede
 
 /// For r = 4, with which the planner would lack words.
 const TAKEN: &[Alteration] = &[
-    ("r taken", |call| refused(call, 10, 0)),
+    ("r taken", |call| refuse(call, 10, 0)),
     ("5 in place of 6", |call| call.answer.first.number = 5),
 ];
 
@@ -42,20 +43,16 @@ const TAKEN_QUICKLY: &[Alteration] = &[("r taken", |call| succeeded(call, 9, 3, 
 
 const RANGE_FIRST: &[Alteration] = &[("6 before 5", |call| call.answer.first.number = 6)];
 
-const LOADS_FIRST: &[Alteration] = &[("7 before 6", |call| refused(call, 7, 2))];
+const LOADS_FIRST: &[Alteration] = &[("7 before 6", |call| refuse(call, 7, 2))];
 
 /// For a |Q| of r × P + 1, with which the planner would lack words.
-const NOT_SLACK: &[Alteration] = &[("the pair taken", |call| refused(call, 10, 0))];
+const NOT_SLACK: &[Alteration] = &[("the pair taken", |call| refuse(call, 10, 0))];
 
 /// For the quick planner on loads that cancel.
 const TRIED_AGAIN: &[Alteration] = &[("the motor tried again", |call| {
     let sheet = b"040000000D00000003010101\n050000000A00000000000A\n";
     succeeded(call, 13, 3, sheet);
 })];
-
-fn refused(call: &mut Call, number: u64, line: u64) {
-    (call.answer.first.number, call.answer.first.line) = (number, line);
-}
 
 /// The bench book with these digits for the ratio.
 fn bench(ratio: &[u8]) -> Case {

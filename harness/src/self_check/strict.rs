@@ -1,10 +1,10 @@
 //! The strict planner: calls that are altered, promises that are broken, and references with M-109's mistakes.
 
 use super::{
-    base, book_of, of_own, succeeded, with_some_budget, Alteration, Base, Books, Checks, Mistake, BENCH_SHEET, BUFFER,
-    NEED, NOT_SPENT, SPENT, STRICT,
+    base, book_of, changed, of_own, refuse, succeeded, with_some_budget, Alteration, Base, Books, Checks, Mistake,
+    BENCH_SHEET, BUFFER, NEED, NOT_SPENT, SPENT, STRICT,
 };
-use crate::call::{Call, Input};
+use crate::call::Input;
 use crate::damage::fault;
 use crate::draw::{self, steps, Bounds};
 use crate::kinds::{FINE, SMALL};
@@ -12,7 +12,6 @@ use crate::random::Random;
 use crate::reference::book::Book;
 use crate::reference::plan::{self, Plan, Planned};
 use crate::reference::{grid, quick, strict, written, Case, Outcome, EXAMPLE};
-use crate::Answer;
 
 /// A book of 11 × 24 cells, as the bench book: N = 3, d = 3 and S = 80, so L is 8 and R is 10. Loads 1 and 2, (47, 0) each, have
 /// a = 10 together, and are over the limit; loads 1 and 3, (79, 0), keep it. Trials are 2 + 4 + 6.
@@ -39,7 +38,7 @@ fn coarse(budget: u64) -> Case {
 /// For a book whose plan is over the limit.
 const EXCEEDED: &[Alteration] = &[
     ("the plan's sheet", |call| succeeded(call, 9, 12, OVER_PLAN)),
-    ("the plan refused", |call| refused(call, 17)),
+    ("the plan refused", |call| refuse(call, 17, 0)),
     ("trials of the choices that were tested", |call| {
         call.sheet.put(b"040000000800000002010001\n");
         call.answer.first.trials = 2;
@@ -65,13 +64,6 @@ const PLANNED: &[Alteration] = &[
     ("6 in place of 20", |call| call.answer.first.number = 6),
     ("line 1", |call| call.answer.first.line = 1),
 ];
-
-fn refused(call: &mut Call, number: u64) {
-    call.answer.first = Answer {
-        number,
-        ..Answer::default()
-    };
-}
 
 /// The strict planner with a sheet, with each refusal of its own, and with two at once.
 pub fn bases() -> Vec<Base> {
@@ -360,13 +352,6 @@ fn with_test(case: &Case, input: Input, holds: impl Fn(&[usize]) -> bool) -> Out
 fn with_best(case: &Case, input: Input, mut choices: Vec<Vec<usize>>, holds: impl Fn(&[usize]) -> bool) -> Outcome {
     choices.retain(|choice| holds(choice));
     with_strict(case, input, strict::best_of(book_of(case), choices, strict::rank))
-}
-
-/// What it has to leave, with another answer.
-fn changed(case: &Case, input: Input, change: fn(&Case, &mut Answer)) -> Outcome {
-    let mut outcome = case.outcome(input);
-    change(case, &mut outcome.answer.first);
-    outcome
 }
 
 /// What it has to leave; but in place of 20, what it would leave without that refusal, where it is one of these numbers.
