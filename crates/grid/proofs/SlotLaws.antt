@@ -71,7 +71,7 @@ module _ (v : Book) (h : Held v) where
   pub slot-sound : (t : ℕ) → t < length (slotsOf (problemOf v)) → SlotSound t (getD (slotsOf (problemOf v)) t noSlot)
   slot-sound t l =
       let k : t < v .slots = omega (arith, slots-length) in
-      let small : getD (v .limits) t 0 ≤ 65535 = omega (arith, held-limit-small v h t k) in
+      let small : getD (v .limits) t 0 ≤ 65535 = held-limit-small v h t (omega (arith, k, held-four v h)) in
       let one : 1 ≤ 65535 = omega arith in
       subst (SlotSound t) (sym (slot-at t k)) (record {
         place-is = refl;

@@ -8,12 +8,12 @@ use lib.ListN.{length, getD}
 use Rattle.model.specs.declared.Book.{Book}
 use Rattle.model.specs.declared.Load.{Load}
 use Rattle.model.specs.Lists.{Every, upto}
-use Rattle.model.specs.Bounds.{mostLoads}
+use Rattle.model.specs.Bounds.{mostLoads, mostLimit}
 use Rattle.model.specs.Book.{Settings, Problem, Power}
 use Rattle.model.specs.Choice.{settingOf, leastOf, powerIn}
 use Rattle.model.specs.Valid.{ValidBook, SettingSmall}
 use Rattle.model.specs.Values.{Held, loadValue, bookValue, problemOf, powerOf, raised}
-use Rattle.model.proofs.ListLaws.{every-at, every-getD}
+use Rattle.model.proofs.ListLaws.{every-getD}
 use Rattle.model.proofs.UptoLaws.{getD-upto}
 use Rattle.model.proofs.ValueLaws.{held-kept, power-at}
 
@@ -48,9 +48,9 @@ module _ (v : Book) (h : Held v) where
   unfolding bookValue
   held-limit s l = ap (λ (x : Book). getD (x .limits) s 0) held-is ∙ getD-upto (λ i. getD (problemOf v .limits) i 0) 4 s 0 l
 
-  pub held-limit-small : (s : ℕ) → s < v .slots → getD (v .limits) s 0 < 65536
+  pub held-limit-small : (s : ℕ) → s < 4 → getD (v .limits) s 0 ≤ mostLimit
   held-limit-small s l =
-      omega (arith, held-four, held-limit s (omega (arith, held-four)), every-at (λ x. x < 65536) (problemOf v .limits) 0 (held-valid .limits-small) s (omega (arith, held-slots)))
+      omega (arith, held-limit s l, every-getD (λ x. x < 65536) (problemOf v .limits) 0 (omega arith) (held-valid .limits-small) s)
 
   pub held-load : (k : ℕ) (d : Load) → k < mostLoads → getD (v .loads) k d ≡ loadValue (getD (problemOf v .loads) k [])
   unfolding bookValue

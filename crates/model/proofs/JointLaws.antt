@@ -93,6 +93,7 @@ given one two m e =
       reads-first = read .reads-one;
       reads-second = read .reads-two;
       reads = reads-back one two m e;
+      together = λ c d keep. (together-is one two m e c d keep, together-keeps one two m e c d keep);
       joint = λ c d keep words before after answer w. (worth-both one two m e c d keep words before after answer w, some-plan one two m e c d keep words before after answer w);
     }
 

@@ -108,35 +108,11 @@ number-some SlotsOrFinenessDiffer e = omega arith
 number-some TooManyLoads e = omega arith
 number-some LimitSumTooLarge e = omega arith
 
--- a refusal, where the result is one, and its line have a property
-module _ (P : Refusal → ℕ → Type 0) where
-  abbrev pub EachRefusal : {A : Type 0} → Result A → Type 0
-  EachRefusal (refused r line) = P r line
-  EachRefusal (done x) = Unit {0}
-
-  module _ {A : Type 0} where
-    pub checked-each : (line : ℕ) (f : Finding) (x : Result A) → ((r : Refusal) → f ≡ Refused r → P r line) → EachRefusal x → EachRefusal (checked line f x)
-    checked-each line Passed x h k = k
-    checked-each line (Refused r) x h k = h r refl
-
-  module _ {A B : Type 0} where
-    pub then-each : (x : Result A) (f : A → Result B) → EachRefusal x → ((a : A) → EachRefusal (f a)) → EachRefusal (andThen x f)
-    then-each (refused r line) f h k = h
-    then-each (done a) f h k = k a
-
--- its line is at most n
-abbrev pub LineMost : ℕ → {A : Type 0} → Result A → Type 0
-LineMost n x = EachRefusal (λ r line. line ≤ n) x
-
 -- a refusal, where there is one, has a number of at most n
 module _ (n : ℕ) where
   -- of the rows of a table
   abbrev pub RulesMost : List Rule → Type 0
   RulesMost rs = Every (λ x. numberOf (x .refusal) ≤ n) rs
-
-  -- of a result
-  abbrev pub NumberMost : {A : Type 0} → Result A → Type 0
-  NumberMost x = EachRefusal (λ r line. numberOf r ≤ n) x
 
   pub first-most : (rs : List Rule) (r : Refusal) → RulesMost rs → first rs ≡ Refused r → numberOf r ≤ n
   unfolding first
@@ -147,10 +123,21 @@ module _ (n : ℕ) where
       go true q rest = subst (λ y. numberOf y ≤ n) (refused-same (x .refusal) r q) (h .0)
       go false q rest = rest q
 
+-- of a result: where it is a refusal, its number is at most n and its line at most m
+module _ (n m : ℕ) where
+  abbrev pub Bounded : {A : Type 0} → Result A → Type 0
+  Bounded (refused r line) = (numberOf r ≤ n) × (line ≤ m)
+  Bounded (done x) = Unit {0}
+
   module _ {A : Type 0} where
-    pub checked-most : (line : ℕ) (rs : List Rule) (x : Result A) → RulesMost rs → NumberMost x → NumberMost (checked line (first rs) x)
-    checked-most line rs x h k = checked-each (λ r line. numberOf r ≤ n) line (first rs) x (λ r. first-most rs r h) k
+    pub checked-bounded : (line : ℕ) (rs : List Rule) (x : Result A) → line ≤ m → RulesMost n rs → Bounded x → Bounded (checked line (first rs) x)
+    checked-bounded line rs x l h k = go (first rs) (first-most n rs)
+      where
+        go : (f : Finding) → ((r : Refusal) → RulesMost n rs → f ≡ Refused r → numberOf r ≤ n) → Bounded (checked line f x)
+        go Passed q = k
+        go (Refused r) q = (q r h refl, l)
 
   module _ {A B : Type 0} where
-    pub then-most : (x : Result A) (f : A → Result B) → NumberMost x → ((a : A) → NumberMost (f a)) → NumberMost (andThen x f)
-    then-most x f h k = then-each (λ r line. numberOf r ≤ n) x f h k
+    pub then-bounded : (x : Result A) (f : A → Result B) → Bounded x → ((a : A) → Bounded (f a)) → Bounded (andThen x f)
+    then-bounded (refused r line) f h k = h
+    then-bounded (done a) f h k = k a

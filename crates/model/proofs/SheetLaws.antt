@@ -9,7 +9,6 @@ use native.Mathlib.Nat.{add-zero, zero-add}
 use native.Mathlib.Omega.{arith}
 use lib.Dec.{eqb}
 use lib.ListN.{length, length-append, getD, drop}
-use lib.Seq.{drop-at, drop-drop}
 use borrow.Author.Tests.{not-false}
 use Rattle.model.specs.declared.Refusal.the-variants.{ForeignSheet}
 use Rattle.model.specs.declared.Finding.the-variants.{Passed}

@@ -23,7 +23,7 @@ use Rattle.model.specs.Valid.{SettingKept, Numbered, Labelled, SettingSm
 use Rattle.model.proofs.ListLaws.{both-true, within-is, every-at, every-imp, every-image, every-getD, any-false}
 use Rattle.model.proofs.UptoLaws.{length-upto}
 use Rattle.model.proofs.FrameLaws.{field-below, signed-small}
-use Rattle.model.proofs.RefusalLaws.{done-same, checked-done, then-done, NoneApplies, first-passed, first-none, RulesMost, NumberMost, checked-most, then-most, LineMost, checked-each, then-each}
+use Rattle.model.proofs.RefusalLaws.{done-same, checked-done, then-done, NoneApplies, first-passed, first-none, RulesMost, Bounded, checked-bounded, then-bounded}
 use Rattle.model.proofs.NumberLaws.{numbered-least, labelled-from}
 
 -- ---- the settings that a line gives
@@ -303,7 +303,7 @@ module _ (bytes : List ℕ) (b : Problem) (e : readBook bytes ≡ done b) where
 pub load-labelled : {b : Problem} → ValidBook b → (k : ℕ) → k < length (b .loads) → Labelled (getD (b .loads) k [])
 load-labelled {b} valid k l = every-at Labelled (b .loads) [] (valid .loads .labels) k l
 
--- ---- the reader's refusals are 1 to 8
+-- ---- the reader's refusals are 1 to 8, and their lines at most 257, as N has two digits
 
 load-rules-most : (t r : ℕ) (line : List ℕ) → RulesMost 8 (loadRules t r line)
 unfolding loadRules
@@ -313,44 +313,24 @@ header-rules-most : (line : List ℕ) → RulesMost 8 (headerRules line)
 unfolding headerRules
 header-rules-most line = (omega arith, (omega arith, (omega arith, (omega arith, (omega arith, tt)))))
 
-loads-most : (t r left number : ℕ) (bytes : List ℕ) → NumberMost 8 (readLoads t r left number bytes)
+loads-bounded : (m t r left number : ℕ) (bytes : List ℕ) → number + left ≤ m → Bounded 8 m (readLoads t r left number bytes)
 unfolding readLoads
-loads-most t r zero number bytes = checked-most 8 number (endRules bytes) (done []) (omega arith, tt) tt
-loads-most t r (suc left) number bytes =
+loads-bounded m t r zero number bytes h = checked-bounded 8 m number (endRules bytes) (done []) (omega (arith, h)) (omega arith, tt) tt
+loads-bounded m t r (suc left) number bytes h =
     let rest : Result (List Settings) = readLoads t r left (suc number) (afterLine bytes) in
     let more : List Settings → Result (List Settings) = λ ls. done (settings t (lineOf bytes) ∷ ls) in
-    checked-most 8 number (lineRule bytes ∷ loadRules t r (lineOf bytes)) (andThen rest more) (omega arith, load-rules-most t r (lineOf bytes))
-    (then-most 8 rest more (loads-most t r left (suc number) (afterLine bytes)) (λ ls. tt))
+    checked-bounded 8 m number (lineRule bytes ∷ loadRules t r (lineOf bytes)) (andThen rest more) (omega (arith, h)) (omega arith, load-rules-most t r (lineOf bytes))
+    (then-bounded 8 m rest more (loads-bounded m t r left (suc number) (afterLine bytes) (omega (arith, h))) (λ ls. tt))
 
-pub book-most : (bytes : List ℕ) → NumberMost 8 (readBook bytes)
+pub book-bounded : (bytes : List ℕ) → Bounded 8 257 (readBook bytes)
 unfolding readBook
-book-most bytes =
+book-bounded bytes =
     let line : List ℕ = lineOf bytes in
     let rest : Result (List Settings) = readLoads (slotCount line) (ratioIn line) (loadCount line) 2 (afterLine bytes) in
     let whole : List Settings → Result Problem = λ ls. done (problem line ls) in
-    checked-most 8 1 (lineRule bytes ∷ headerRules line) (andThen rest whole) (omega arith, header-rules-most line)
-    (then-most 8 rest whole (loads-most (slotCount line) (ratioIn line) (loadCount line) 2 (afterLine bytes)) (λ ls. tt))
-
--- ---- and their lines are few, as N has two digits
-
-loads-lines : (m t r left number : ℕ) (bytes : List ℕ) → number + left ≤ m → LineMost m (readLoads t r left number bytes)
-unfolding readLoads
-loads-lines m t r zero number bytes h = checked-each (λ r line. line ≤ m) number (first (endRules bytes)) (done []) (λ r e. omega (arith, h)) tt
-loads-lines m t r (suc left) number bytes h =
-    let rest : Result (List Settings) = readLoads t r left (suc number) (afterLine bytes) in
-    let more : List Settings → Result (List Settings) = λ ls. done (settings t (lineOf bytes) ∷ ls) in
-    checked-each (λ r line. line ≤ m) number (first (lineRule bytes ∷ loadRules t r (lineOf bytes))) (andThen rest more) (λ r e. omega (arith, h))
-    (then-each (λ r line. line ≤ m) rest more (loads-lines m t r left (suc number) (afterLine bytes) (omega (arith, h))) (λ ls. tt))
-
-pub book-lines : (bytes : List ℕ) → LineMost 257 (readBook bytes)
-unfolding readBook
-book-lines bytes =
-    let line : List ℕ = lineOf bytes in
-    let rest : Result (List Settings) = readLoads (slotCount line) (ratioIn line) (loadCount line) 2 (afterLine bytes) in
-    let whole : List Settings → Result Problem = λ ls. done (problem line ls) in
-    checked-each (λ r line. line ≤ 257) 1 (first (lineRule bytes ∷ headerRules line)) (andThen rest whole) (λ r e. omega arith)
-    (then-each (λ r line. line ≤ 257) rest whole
-    (loads-lines 257 (slotCount line) (ratioIn line) (loadCount line) 2 (afterLine bytes) (omega (arith, field-below line 4 2))) (λ ls. tt))
+    checked-bounded 8 257 1 (lineRule bytes ∷ headerRules line) (andThen rest whole) (omega arith) (omega arith, header-rules-most line)
+    (then-bounded 8 257 rest whole
+    (loads-bounded 257 (slotCount line) (ratioIn line) (loadCount line) 2 (afterLine bytes) (omega (arith, field-below line 4 2))) (λ ls. tt))
 
 -- no sheet has more than 159 bytes
 pub sheet-few : (b : Problem) → ValidBook b → sheetLength b ≤ mostSheet

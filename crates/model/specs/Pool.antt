@@ -4,7 +4,7 @@ use mathlib.Core.Path.{_≡_}
 use mathlib.Core.Bool.{not, _&&_}
 use mathlib.Core.List.{List, [], _∷_, _++_, map}
 use lib.Dec.{ltb, eqb}
-use lib.ListN.{length, take}
+use lib.ListN.{length}
 use Rattle.model.specs.declared.Answer.{Answer}
 use Rattle.model.specs.declared.Refusal.the-variants.{SlotsOrFinenessDiffer, TooManyLoads, LimitSumTooLarge}
 use Rattle.model.specs.Lists.{upto, any, concat}
@@ -108,6 +108,8 @@ pub record Pooled (one two bytes : List ℕ) : Type 0 where
   pub reads-first : readBook one ≡ done (mills .a)
   pub reads-second : readBook two ≡ done (mills .b)
   pub reads : readBook bytes ≡ done (pooled mills)
+  -- two such choices are, one after the other, a choice of the pooled book that keeps its limits; so this goes on where it is pooled with a third
+  pub together : (c d : Choice) → BothKeep mills c d → IsChoice (pooled mills .loads) (c ++ d) × KeepsLimits (pooled mills) (c ++ d)
   -- of every call of the plain planner with these bytes, where such choices are: "that sheet is worth at least both together", by the worth on the sheet that
   -- it wrote; and it does not give 17
   pub joint : (c d : Choice) → BothKeep mills c d → (words : ℕ) (before after : List ℕ) (answer : Answer)

@@ -119,8 +119,8 @@ impl Load {
 }
 
 impl Book {
-    // Document 01's upper bounds of T, N, d and o, and M-108's of r; each lower bound is 1. Then of a limit, which may be 0, of the cells, and the bytes of the longest sheet; of a day's
-    // books (M-107), and the bytes of a day's longest output.
+    // Document 01's upper bounds of T, N, d and o, and M-108's of r; each lower bound is 1. Then of a limit, which may be 0, of the cells, and the bytes of the
+    // longest sheet; of a day's books (M-107), and the bytes of a day's longest output.
     pub const SLOTS: usize = 4;
 
     pub const LOADS: usize = 24;

@@ -10,25 +10,20 @@ use lib.ListN.{length, getD, take, set, length-append}
 use borrow.Author.Tests.{eq-eqb, ne-eqb}
 use Rattle.model.specs.declared.Book.{Book}
 use Rattle.model.specs.Lists.{upto, concat}
-use Rattle.model.specs.Bounds.{mostSlots, mostLimit}
+use Rattle.model.specs.Bounds.{mostSlots}
 use Rattle.model.specs.Frames.{digits}
 use Rattle.model.specs.Demand.{T, S, N}
 use Rattle.model.specs.Pool.{Mills, limitSums, pooled, headerLine, pooledWith}
 use Rattle.model.specs.Sheet.{lf}
 use Rattle.model.specs.Values.{Held, problemOf}
-use Rattle.model.proofs.ListLaws.{every-getD, length-concat}
+use Rattle.model.proofs.ListLaws.{length-concat}
 use Rattle.model.proofs.UptoLaws.{length-upto, take-upto, getD-upto, map-same}
 use Rattle.model.proofs.FrameLaws.{length-digits}
 use Rattle.model.proofs.HeaderLaws.{length-header}
-use Rattle.model.proofs.HeldLaws.{held-valid, held-count, held-slots, held-four, held-limit}
+use Rattle.model.proofs.HeldLaws.{held-count, held-slots, held-four, held-limit}
 use Rattle.hex.specs.Written.{written}
 use Rattle.hex.proofs.WrittenLaws.{write-on, write-line-three}
 use Rattle.pool.specs.Mills.{millsOf}
-
--- a limit is at most 65,535, and 0 past the last slot
-pub limit-few : (v : Book) → Held v → (s : ℕ) → s < mostSlots → getD (v .limits) s 0 ≤ mostLimit
-limit-few v h s l =
-    omega (arith, held-limit v h s l, every-getD (λ x. x < 65536) (problemOf v .limits) 0 (omega arith) (held-valid v h .limits-small) s)
 
 module _ (a b : Book) (ha : Held a) (hb : Held b) where
   -- the sums of the limits, as an array has them
@@ -48,7 +43,7 @@ module _ (a b : Book) (ha : Held a) (hb : Held b) where
       (λ s p l. ap (λ x. getD x s 0) e ∙ getD-upto sumAt mostSlots s 0 (omega (arith, l, held-four a ha)))
       ∙ sums-pooled
 
-  pub slots-pooled : T (pooled (millsOf a b)) ≡ a .slots
+  slots-pooled : T (pooled (millsOf a b)) ≡ a .slots
   unfolding limitSums
   slots-pooled = length-upto (λ s. S (problemOf a) s + S (problemOf b) s) (T (problemOf a)) ∙ sym (held-slots a ha)
 

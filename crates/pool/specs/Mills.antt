@@ -1,11 +1,7 @@
 -- What the functions of pooling hand on: a refusal with its line counted on, and the two books.
 use Prim.Native.Nat.{ℕ, _+_}
-use mathlib.Core.List.{List, _++_, map}
-use lib.ListN.{getD}
 use Rattle.model.specs.declared.Answer.{Answer}
 use Rattle.model.specs.declared.Book.{Book}
-use Rattle.model.specs.Lists.{upto, concat}
-use Rattle.model.specs.Frames.{digits}
 use Rattle.model.specs.Values.{problemOf}
 use Rattle.model.specs.Pool.{Mills}
 

@@ -5,7 +5,7 @@ use model::Finding;
 use model::Refusal;
 ghost use mathlib.Core.Path.{_≡_};
 ghost use mathlib.Core.List.{map};
-ghost use Prim.Native.Nat.{ℕ, suc, _+_, _*_, _^_, _<_, _≤_, max};
+ghost use Prim.Native.Nat.{ℕ, _+_, _*_, _^_, _<_, _≤_, max};
 ghost use lib.Dec.{ltb};
 ghost use lib.ListN.{length, getD, take};
 ghost use Rattle.model.specs.Lists.{upto, any};

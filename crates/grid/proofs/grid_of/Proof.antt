@@ -43,7 +43,7 @@ slot-of-requires : tie.Need-slot-of-requires Inv-loop μ-loop
 slot-of-requires c κs =
     let s = c .before .before .before .before in
     let t = c .before .before .loop .t - 1 in
-    (header-fits (s .args .book) (s .pre), (omega (arith, held-limit-small (s .args .book) (s .pre) t (omega arith)), ratio-fits (s .args .book) (s .pre) .0, ratio-fits (s .args .book) (s .pre) .1))
+    (header-fits (s .args .book) (s .pre), (omega (arith, held-limit-small (s .args .book) (s .pre) t (omega (arith, held-four (s .args .book) (s .pre)))), ratio-fits (s .args .book) (s .pre) .0, ratio-fits (s .args .book) (s .pre) .1))
 
 -- the geometry before slot t - 1
 abbrev before : tie.After-slot-of Inv-loop μ-loop → Grid

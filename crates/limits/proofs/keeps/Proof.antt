@@ -58,7 +58,7 @@ fits-requires c κs =
       a .pre .1 .active s (omega arith),
       a .pre .1 .reactive s (omega arith),
       omega (arith, held-few (a .args .t2) h),
-      held-limit-small (a .args .t2) h s (omega arith),
+      omega (arith, held-limit-small (a .args .t2) h s (omega (arith, held-four (a .args .t2) h))),
     )
 
 returns : tie.Need-returns Inv-loop μ-loop

@@ -12,10 +12,10 @@ use Rattle.model.specs.Refusals.{first}
 use Rattle.model.specs.Demand.{N}
 use Rattle.model.specs.Values.{problemOf}
 use Rattle.model.specs.Pool.{limitSums, pairRules}
-use Rattle.model.proofs.HeldLaws.{held-few, held-four}
+use Rattle.model.proofs.HeldLaws.{held-few, held-four, held-limit-small}
 use Rattle.model.proofs.RefusalLaws.{first-here, first-next, first-last}
 use Rattle.pool.specs.Mills.{millsOf}
-use Rattle.pool.proofs.HeldPairLaws.{limit-few, slots-differ, fineness-differs, none-differs, counts-are, sums-are}
+use Rattle.pool.proofs.HeldPairLaws.{slots-differ, fineness-differs, none-differs, counts-are, sums-are}
 use native.Mathlib.Omega.{arith}
 use Rattle.pool.proofs.pair_finding.Statement.{statement}
 use Rattle.pool.proofs.pair_finding.Tie as tie
@@ -64,7 +64,7 @@ few c =
 limit-sums-requires : tie.Need-limit-sums-requires
 limit-sums-requires c κs =
     let s = c .before .before .before .before .before .before .before .before .before .before .before in
-    (limit-few (s .args .a) (s .pre .0), limit-few (s .args .b) (s .pre .1))
+    (held-limit-small (s .args .a) (s .pre .0), held-limit-small (s .args .b) (s .pre .1))
 
 too-large-requires : tie.Need-too-large-requires
 too-large-requires c κs =

@@ -3,8 +3,8 @@ use mathlib.Core.Path.{refl, sym, ap}
 use Prim.Native.Nat.{_≤_}
 use lib.ListN.{length, length-set}
 use lib.Seq.{length-take-le}
-use Rattle.model.proofs.HeldLaws.{held-few, held-four}
-use Rattle.pool.proofs.HeldPairLaws.{limit-few, header-written}
+use Rattle.model.proofs.HeldLaws.{held-few, held-four, held-limit-small}
+use Rattle.pool.proofs.HeldPairLaws.{header-written}
 use native.Mathlib.Omega.{arith}
 use borrow.Author.Needs.{needs}
 use Rattle.pool.proofs.write_header.Statement.{statement}
@@ -24,7 +24,7 @@ larger-requires-2 c κs = search needs
 limit-sums-requires : tie.Need-limit-sums-requires
 limit-sums-requires c κs =
     let s = c .before .before .before .before .before .before .before in
-    (limit-few (s .args .a) (s .pre .0), limit-few (s .args .b) (s .pre .1 .0))
+    (held-limit-small (s .args .a) (s .pre .0), held-limit-small (s .args .b) (s .pre .1 .0))
 
 -- a limit for each slot is there
 inside : (c : tie.After-limit-sums) → let s = c .before .before .before .before .before .before .before .before in s .args .a .slots ≤ length (c .limit-sums .result)
