@@ -4,8 +4,8 @@
 //     pool -1 FIRST SECOND SHEET
 //     pool -2 FIRST SECOND SHEET
 //
-// Prints the pooled book. Lends so many BYTES of buffer, up to 3515; where they are not given, these, which suffice for every
-// book. With -1 or -2, SHEET is a sheet of the pooled book, and what it has the first or the second mill do is printed as a
+// Prints the pooled book. Lends BYTES bytes of buffer, at most 3515; without BYTES, 3515, which suffice for every book.
+// With -1 or -2, SHEET is a sheet of the pooled book, and what it has the first or the second mill do is printed as a
 // sheet of that mill's own book, with the trials of SHEET.
 // Exit status: 0 a book or a sheet, 1 a refusal, 2 an error of this program.
 #include <cstddef>

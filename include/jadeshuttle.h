@@ -134,9 +134,11 @@ enum jadeshuttle_number {
     JADESHUTTLE_WRONG_KIND = 3,                     /* stray: fewer than 4 digits, or kind not one that is due */
     JADESHUTTLE_SLOTS_OR_OPTIONS_OUT_OF_RANGE = 4,  /* crowded: T not 1 to 4; o not 1 to 3 */
     JADESHUTTLE_WRONG_LENGTH = 5,                   /* misshapen: number of digits not the stated one */
-    JADESHUTTLE_LOADS_OR_FINENESS_OUT_OF_RANGE = 6, /* beyond: N not 1 to 24, d not 1 to 64, or r not 1 to 3; line 1 */
+    JADESHUTTLE_LOADS_OR_FINENESS_OUT_OF_RANGE = 6, /* beyond: N not 1 to 24, d not 1 to 64, or r not 1 to 3; line 1
+                                                       of its book */
     JADESHUTTLE_REACTIVE_EXCEEDS_ACTIVE = 7,        /* slack: |Q| > r x P in some slot of an option or of standing */
-    JADESHUTTLE_TRAILING_BYTES = 8,                 /* trailing: bytes remain after the last load line; line N + 2 */
+    JADESHUTTLE_TRAILING_BYTES = 8,                 /* trailing: bytes remain after the last load line; line N + 2
+                                                       of its book */
     /* The planner and the strict planner. */
     JADESHUTTLE_TOO_MANY_CELLS = 9,  /* oversize: cells over 1,048,576 */
     JADESHUTTLE_WORK_TOO_SMALL = 10, /* cramped: work area under 4 x cells words */
@@ -420,29 +422,45 @@ jadeshuttle_answer jadeshuttle_day(const uint8_t *books, size_t books_len,
  * the larger budget, and for each slot the sum of the two limits; then the load lines of
  * `first` as they stand, digit for digit, and then those of `second`. With N1 the number
  * of the first's loads, load k of the second is load N1 + k of the pooled book: on its
- * sheets the levels of the first mill come first, and then those of the second.
+ * sheets the levels of the first mill come first, and then those of the second. To split
+ * a sheet, take the code that jadeshuttle_read_sheet gives for it: the first mill's is
+ * its lowest 2 * N1 bits, and the second's is code >> 2 * N1.
  *
  * Every call takes the pooled book as any other. Plan it for a joint plan; pool it with
  * the book of a third mill.
  *
+ * A book has no time and no unit of worth: the call compares only T and d. Hand over
+ * books of the same quarter hours, with worths in one unit. The joint plan weighs a load
+ * of one mill against a load of the other, and may leave one mill standing.
+ *
  * Gives 1 to 8 for the first book, all of them before anything of the second; then 1 to
  * 8 for the second, whose lines count on from the first's last: its line j is line
  * N1 + 1 + j, and its 8, with N2 loads, is at N1 + N2 + 3; then 21, 22, 23, and last 11.
- * JADESHUTTLE_BOOK_MAX bytes always suffice: with them 11 is not given.
+ * The pooled book has 19 + 4T bytes and those of all load lines. JADESHUTTLE_BOOK_MAX
+ * bytes always suffice: with them 11 is not given.
  *
  * Of every pooled book:
  *   - it is read, with no refusal of 1 to 8, and says what is said above;
  *   - where one choice keeps P*P + Q*Q <= S*S in every slot of the first book, and
  *     another in every slot of the second, each sheet that jadeshuttle_plan gives for
- *     the pooled book is worth at least both together, and it does not give 17 for it.
+ *     the pooled book is worth at least both together, and it does not give 17 for it;
+ *   - these two, one after the other, are then a choice that keeps P*P + Q*Q <= S*S in
+ *     every slot of the pooled book. So with a third book that has such a choice, too,
+ *     the same holds of all three pooled.
  * The sheets of jadeshuttle_plan_strict and jadeshuttle_quick for the two books are of
  * such choices. Those of jadeshuttle_plan may exceed a limit, and then they are not.
  *
  * NOT PROMISED  Nothing is said about each mill by itself. What jadeshuttle_plan
- * promises of the apparent power is of the summed limits, so a joint plan may have one
- * mill draw more than its own limit. Where each mill has a relay of its own that trips
- * at that limit, do not pool. And the pooled book may be oversize (9), need more words
- * (10) or have more trials than the larger budget (12), though neither book does alone.
+ * promises of the apparent power is of the summed limits, and these are the limits that
+ * jadeshuttle_plan_strict and jadeshuttle_quick keep; so a joint plan may have one mill
+ * draw more than its own limit. Where each mill has a relay of its own that trips at
+ * that limit, do not pool. Of the sheets of jadeshuttle_plan_strict and
+ * jadeshuttle_quick for the pooled book it is not promised that they are worth both
+ * together. And the pooled book may be oversize (9), need more words (10) or have more
+ * trials than the larger budget (12), though each book alone is planned; so write a
+ * budget that suffices for both, such as FFFFFFFF, into one of them. Where a sheet of
+ * jadeshuttle_plan for one of them exceeds a limit, the joint plan may be worth less
+ * than both sheets, or there may be none (17).
  */
 jadeshuttle_answer jadeshuttle_pool(const uint8_t *first, size_t first_len,
                                     const uint8_t *second, size_t second_len,

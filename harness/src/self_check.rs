@@ -575,53 +575,53 @@ fn check_reference(checks: &mut Checks, (books, draw): &Books, (name, functions,
     }
 }
 
-/// Whether this call on the book, or on a day's books, or on the book and a second, differs from a reference. The planners have a
-/// buffer that suffices and one that does not, and those with a work area also just the words that they need, and one less; on the
-/// sheets, loads that must run may stand.
+/// Whether this call on the book, or on a day's books, or on the book and a second, differs from a reference. On the sheets, loads
+/// that must run may stand.
 fn differs(random: &mut Random, case: &Case, function: Function, reference: fn(&Case, Input) -> Outcome) -> bool {
     let text = &case.text;
     let (words, room) = (vec![7; 4 * SMALL.cells as usize], [0; DAY_MAX]);
-    let free = &room[..SHEET_MAX];
-    let short = &free[..case.sheet_bytes().saturating_sub(1)];
-    let need = (4 * case.cells()).min(words.len() as u128) as usize;
+    let lent = lent(case, &words, &room);
+    let [(_, free), (_, short), ..] = lent;
     let [running, planned] = [(); 2].map(|_| sheet_of_any(random, case));
     let (slots, loads) = case
         .book
         .as_ref()
         .map_or((0, 0), |book| (book.limits.len(), book.loads.len()));
     let (prices, names) = (vec![40; slots], vec![0; loads]);
-    let lent = [
-        (&words[..], free),
-        (&words, short),
-        (&words[..need], free),
-        (&words[..need.saturating_sub(1)], free),
-    ];
-    let inputs = [
-        Input::quick(text, free),
-        Input::quick(text, short),
-        Input::read_sheet(text, &planned),
-        Input::charge(text, &planned, &prices),
-        Input::order(text, &running, &planned, &names, free),
-        Input::mill_view(text, &planned, free),
-        Input::supply_view(text, &planned, free),
-    ];
     let seconds = match function {
         Function::Pool => pool::seconds(random, case),
         _ => Vec::new(),
     };
-    let further: Vec<Input> = match function {
+    let inputs: Vec<Input> = match function {
         Function::Plan => lent.map(|(words, sheet)| Input::plan(text, words, sheet)).into(),
         Function::PlanStrict => lent.map(|(words, sheet)| Input::plan_strict(text, words, sheet)).into(),
+        Function::Quick => vec![Input::quick(text, free), Input::quick(text, short)],
+        Function::ReadSheet => vec![Input::read_sheet(text, &planned)],
+        Function::Charge => vec![Input::charge(text, &planned, &prices)],
+        Function::Order => vec![Input::order(text, &running, &planned, &names, free)],
+        Function::MillView => vec![Input::mill_view(text, &planned, free)],
+        Function::SupplyView => vec![Input::supply_view(text, &planned, free)],
         Function::Day => days::inputs(random, case, &words, &room),
         Function::Pool => pool::inputs(case, &seconds, &room),
-        _ => Vec::new(),
     };
-    let single = inputs.into_iter().filter(|input| input.function == function);
-    let mut made = single.chain(further);
-    made.any(|input| {
+    inputs.into_iter().any(|input| {
         let complaints = Call::new(random, input).complaints(&reference(case, input));
         !complaints.is_empty()
     })
+}
+
+/// What is lent to a planner: a buffer that suffices and one that does not; and where it has a work area, with the first of them also
+/// just the words that the book needs, and one less.
+fn lent<'a>(case: &Case, words: &'a [u64], room: &'a [u8]) -> [(&'a [u64], &'a [u8]); 4] {
+    let free = &room[..SHEET_MAX];
+    let short = &free[..case.sheet_bytes().saturating_sub(1)];
+    let need = (4 * case.cells()).min(words.len() as u128) as usize;
+    [
+        (words, free),
+        (words, short),
+        (&words[..need], free),
+        (&words[..need.saturating_sub(1)], free),
+    ]
 }
 
 /// A sheet of the book with any levels, or standing, for all loads; of no book, no sheet.

@@ -66,6 +66,15 @@ fn read(trials: &mut Trials) -> Verdict {
             trials.check(&format!("{file} is used"), || used(&file, &blocks));
         }
     }
+    proved_rows(trials);
+    trials.check(&format!("{HANDBOOK} names no path that is missing"), || {
+        paths(&handbook)
+    });
+    Ok(())
+}
+
+/// The worked books are rows of the proved table.
+fn proved_rows(trials: &mut Trials) {
     trials.check("examples/close.book is a row of the proved table", proved_overload);
     for book in PROVED_BOOKS {
         trials.check(&format!("{book} is a row of the proved table"), || proved_print(book));
@@ -84,12 +93,10 @@ fn read(trials: &mut Trials) -> Verdict {
     for book in [first, second] {
         trials.check(&format!("{book} is a row of the proved table"), || proved_print(book));
     }
-    trials.check(&format!("{pooled} is a row of the proved table"), || proved_plan(pooled));
-    trials.check("the pooled book is a row of the proved table", proved_pool);
-    trials.check(&format!("{HANDBOOK} names no path that is missing"), || {
-        paths(&handbook)
+    trials.check(&format!("{pooled} is a row of the proved table"), || {
+        proved_plan(pooled)
     });
-    Ok(())
+    trials.check("the pooled book is a row of the proved table", proved_pool);
 }
 
 // ---- blocks

@@ -7,8 +7,8 @@ use mathlib.Core.List.{List, [], _∷_, _++_, map, append-assoc, append-nil}
 use Prim.Native.Nat.{ℕ, suc, _+_, _-_, _*_, _<_, _≤_}
 use native.Mathlib.Nat.{sub-zero}
 use native.Mathlib.Omega.{arith}
-use lib.ListN.{length, getD, take, drop, set, replicate, length-append, length-drop, List·getD-append, List·getD-eq-default}
-use lib.Seq.{take-all, drop-drop, getD-at}
+use lib.ListN.{length, getD, take, drop, set, replicate, length-append, List·getD-append, List·getD-eq-default}
+use lib.Seq.{drop-drop, getD-at}
 use borrow.Author.Tests.{lt-ltb, le-ltb}
 use Rattle.model.specs.declared.Book.{Book}
 use Rattle.model.specs.declared.Finding.the-variants.{Passed, Refused}
@@ -25,6 +25,7 @@ use Rattle.model.specs.Values.{loadValue, bookValue, freshBook, readingOf}
 use Rattle.model.proofs.UptoLaws.{length-upto, set-upto}
 use Rattle.model.proofs.IntegerLaws.{split}
 use Rattle.model.proofs.RefusalLaws.{first-here, first-next, number-some}
+use Rattle.hex.proofs.FieldLaws.{rest-is}
 use Rattle.book.specs.Lines.{loadsValue, loadsReading, restRead}
 
 -- ---- one line
@@ -146,9 +147,6 @@ module _ (t ratio count : ℕ) (s : List ℕ) (at k : ℕ) (loads : List Load) (
       last e ∙ ap (joined (h .before)) (none-left (drop at s) (done []) l) ∙ ap {B = Result (List Settings)} done (append-nil (h .before))
 
 -- ---- the line that starts at a place, as the code takes it
-
-pub rest-is : (s : List ℕ) (at : ℕ) → at ≤ length s → take (length s - at) (drop at s) ≡ drop at s
-rest-is s at h = take-all (length s - at) (drop at s) (rw length-drop (omega arith))
 
 pub length-is : (s : List ℕ) (at n : ℕ) → at ≤ length s → n ≡ lineLength (take (length s - at) (drop at s)) → n ≡ lineLength (drop at s)
 length-is s at n h e = e ∙ ap lineLength (rest-is s at h)

@@ -87,6 +87,6 @@ pub fn day(books: &[u8], work: &mut [u64], out: &mut [u8]) -> Answer
     if out.len() < length {
         return Answer::refusal(Refusal::OutputTooLong, 0);
     }
-    hex::copy(&waiting[..length], out, 0);
+    hex::copy(out, 0, &waiting[..length]);
     Answer::success(length as u64, 0, 0)
 }

@@ -1,7 +1,7 @@
 -- Header lines: a rule over several ranges, where the ratio stands, and what a line that is not refused tells.
 -- Assumes nothing.
-use mathlib.Core.Path.{_≡_, refl, sym}
-use mathlib.Core.Bool.{Bool, true, false, cond, not, _&&_, false≢true}
+use mathlib.Core.Path.{_≡_, refl}
+use mathlib.Core.Bool.{Bool, true, false, cond}
 use mathlib.Core.List.{List}
 use Prim.Native.Nat.{ℕ, _<_, _≤_}
 use native.Mathlib.Omega.{arith}
@@ -13,19 +13,6 @@ use Rattle.model.specs.Book.{slotCount, statesRatio, ratioDigits, ratioIn, head
 use Rattle.model.proofs.RefusalLaws.{first-passed}
 use Rattle.model.proofs.ValidLaws.{HeaderRanges, header-ranges}
 use Rattle.header.specs.Header.{HeaderLine}
-
--- a rule over one range and another
-pub first-out : (t u : Bool) → not t ≡ true → not (t && u) ≡ true
-first-out true u e = absurd (false≢true e)
-first-out false u e = refl
-
-pub second-out : (t u : Bool) → not t ≡ false → not u ≡ true → not (t && u) ≡ true
-second-out true u e f = f
-second-out false u e f = absurd (false≢true (sym e))
-
-pub none-out : (t u : Bool) → not t ≡ false → not u ≡ false → not (t && u) ≡ false
-none-out true u e f = f
-none-out false u e f = e
 
 -- ---- the ratio, by how many digits it has
 

@@ -1,6 +1,6 @@
--- Laws of reading, for the loops of `all_digits`, `number`, `line_length` and `wrong_kind`.
+-- Laws of reading, for the loops of `all_digits`, `number`, `line_length` and `wrong_kind`, and for a part that is lent.
 -- Assumes nothing.
-use Prim.Native.Nat.{ℕ, suc, _+_, _*_, _<_}
+use Prim.Native.Nat.{ℕ, suc, _+_, _*_, _-_, _<_, _≤_}
 use mathlib.Core.List.{List}
 use mathlib.Core.Bool.{Bool, true, false}
 use mathlib.Core.Path.{_≡_}
@@ -8,8 +8,8 @@ use native.Mathlib.Numerals.{add-one}
 use native.Mathlib.Omega.{arith}
 use borrow.Author.Tests.{eq-eqb, ne-eqb}
 use lib.Dec.{eqb}
-use lib.ListN.{length, getD, drop, length-drop}
-use lib.Seq.{drop-cons, drop-length, take-suc, getD-drop}
+use lib.ListN.{length, getD, take, drop, length-drop}
+use lib.Seq.{drop-cons, drop-length, take-all, take-suc, getD-drop}
 use Rattle.model.specs.Lists.{all, any}
 use Rattle.model.specs.Frames.{isDigit, digitValue, field, lineLength}
 use Rattle.model.proofs.FrameLaws.{value-last}
@@ -60,3 +60,7 @@ unfolding lineLength
 line-end s i t h e =
     let f : length s + 0 ≡ t = rw (h, drop-length) at e in
     omega arith
+
+-- the part from a place on, as it is lent
+pub rest-is : (s : List ℕ) (at : ℕ) → at ≤ length s → take (length s - at) (drop at s) ≡ drop at s
+rest-is s at h = take-all (length s - at) (drop at s) (rw length-drop (omega arith))

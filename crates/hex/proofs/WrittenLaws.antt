@@ -1,4 +1,4 @@
--- Writes into a buffer: their length, and how they join.
+-- Writes into a buffer: their length, and how they join to a line, a row of numbers, or the bytes that are copied.
 -- Assumes nothing.
 use Prim.Native.Nat.{ℕ, suc, _+_, _*_, _-_, _/_, _%_, _^_, _≤_, _<_}
 use mathlib.Core.List.{List, [], _∷_, _++_, map, map-append, append-assoc, append-nil}

@@ -1,4 +1,4 @@
-// Hexadecimal digits, numbers and lines in a slice of bytes, read and written; whether a number is in its range and a line of a kind that is due.
+// Hexadecimal digits, numbers and lines in a slice of bytes, read, written and copied; whether a number is in its range and a line of a kind that is due.
 ghost use mathlib.Core.Path.{_≡_};
 ghost use mathlib.Core.Bool.{not};
 ghost use mathlib.Core.List.{map};
@@ -122,7 +122,7 @@ pub fn write_row(buf: &mut [u8], at: usize, n: usize, xs: &[u64])
 }
 
 // Writes these bytes from `at` on.
-pub fn copy(bytes: &[u8], buf: &mut [u8], at: usize)
+pub fn copy(buf: &mut [u8], at: usize, bytes: &[u8])
     requires { ⌜ at + length (now bytes) ≤ length (now buf) ⌝ }
     ensures { λ _. ⌜ now (buf .exit) ≡ written (now (buf .entry)) at (now (bytes .entry)) ⌝ }
 {

@@ -17,6 +17,7 @@ use Rattle.model.specs.declared.Answer.{Answer}
 use Rattle.model.specs.declared.SheetAnswer.{SheetAnswer}
 use Rattle.model.specs.declared.ChargeAnswer.{ChargeAnswer}
 use Rattle.model.specs.Lists.{upto, all, any, concat, sameLists}
+use Rattle.model.specs.Bounds.{mostBook}
 use Rattle.model.specs.Frames.{isDigit, digitValue, digit, valueFrom, field, digits, signed, unsigned, lineLength}
 use Rattle.model.specs.Refusals.{Result, refused, done, numberOf, first}
 use Rattle.model.specs.Answers.{Output, answerOf, inRoom}
@@ -569,7 +570,7 @@ strictRows =
 
 -- M-110: two books pooled, in a buffer for which none is too long; and refused, in a buffer of 0 bytes, so that each number comes before 11
 abbrev pools : String → String → String → Row
-pools one two out = shows poolResult (bytesOf one) (bytesOf two) 3515 (0 ∷ 0 ∷ length (bytesOf out) ∷ 0 ∷ 0 ∷ []) out
+pools one two out = shows poolResult (bytesOf one) (bytesOf two) mostBook (0 ∷ 0 ∷ length (bytesOf out) ∷ 0 ∷ 0 ∷ []) out
 
 abbrev unpooled : String → String → ℕ → ℕ → String → Row
 unpooled one two number line out = shows poolResult (bytesOf one) (bytesOf two) 0 (number ∷ line ∷ 0 ∷ 0 ∷ 0 ∷ []) out
@@ -596,11 +597,11 @@ abbrev threeSlots : String → String
 threeSlots limits = joined "0103010500000064" (joined limits "\n02010005000600000006000000060000\n")
 
 -- a mill with r = 3, whose load draws (2, -6), and one with r = 2, whose load draws (2, 4)
-abbrev thrice : String
-thrice = "0801010503000000640008\n020100040002FFFA\n"
+abbrev ratioThree : String
+ratioThree = "0801010503000000640008\n020100040002FFFA\n"
 
-abbrev twice : String
-twice = "0801010502000000640008\n0201000400020004\n"
+abbrev ratioTwo : String
+ratioTwo = "0801010502000000640008\n0201000400020004\n"
 
 -- load lines of each kind: `06` and `02`; and `07`, with two levels
 abbrev mixed : String
@@ -642,7 +643,7 @@ poolRows =
     shows poolResult (bytesOf mill) (bytesOf annex) 57 (0 ∷ 0 ∷ 57 ∷ 0 ∷ 0 ∷ []) bothMills
     -- the larger budget, and the larger r, where the second has it
     ∷ pools "010101050000000A0006\n0201000500060000\n" annex bothMills
-    ∷ pools mill thrice "080102050300000064000E\n0201000500060000\n020100040002FFFA\n"
+    ∷ pools mill ratioThree "080102050300000064000E\n0201000500060000\n020100040002FFFA\n"
     -- the second's lines count on from N1 + 1; here its first is missing
     ∷ unpooled mill "" 1 3 "FF010003\n"
     -- two faults: 21 before 22
@@ -654,10 +655,10 @@ poolRows =
     ∷ pools bothMills mill "0801030501000000640014\n0201000500060000\n0201000400080000\n0201000500060000\n"
     -- the larger budget, and the larger r, where the first has it
     ∷ pools mill "010101050000000A0008\n0201000400080000\n" bothMills
-    ∷ pools thrice mill "080102050300000064000E\n020100040002FFFA\n0201000500060000\n"
+    ∷ pools ratioThree mill "080102050300000064000E\n020100040002FFFA\n0201000500060000\n"
     -- of two r that are stated, the larger
-    ∷ pools thrice twice "0801020503000000640010\n020100040002FFFA\n0201000400020004\n"
-    ∷ pools twice thrice "0801020503000000640010\n0201000400020004\n020100040002FFFA\n"
+    ∷ pools ratioThree ratioTwo "0801020503000000640010\n020100040002FFFA\n0201000400020004\n"
+    ∷ pools ratioTwo ratioThree "0801020503000000640010\n0201000400020004\n020100040002FFFA\n"
     -- lines of kinds `02`, `06` and `07`, digit for digit
     ∷ pools mixed required "080103050100000064000E\n06010003FFFD000500060002\n020100010001FFFF\n070200010005FFFB000300060006\n"
     ∷ pools required mixed "080103050100000064000E\n070200010005FFFB000300060006\n06010003FFFD000500060002\n020100010001FFFF\n"
@@ -669,6 +670,8 @@ poolRows =
     ∷ unpooled mill "0301010500000064000G\n" 2 3 "FF020003\n"
     ∷ unpooled mill "01010105000000640008\n020100040008FFF7\n" 7 4 "FF070004\n"
     ∷ unpooled mill "01010205000000640008\n0201000400080000\n" 1 5 "FF010005\n"
+    -- each book is read under its own r
+    ∷ unpooled ratioThree "01010105000000640008\n020100040002FFFA\n" 7 4 "FF070004\n"
     ∷ unpooled bothMills "" 1 4 "FF010004\n"
     ∷ unpooled bothMills (joined annex "\n") 8 6 "FF080006\n"
     -- 21 by T and by d, either way

@@ -50,7 +50,7 @@ module _ (v : Book) (h : Held v) where
 
   pub held-limit-small : (s : ℕ) → s < 4 → getD (v .limits) s 0 ≤ mostLimit
   held-limit-small s l =
-      omega (arith, held-limit s l, every-getD (λ x. x < 65536) (problemOf v .limits) 0 (omega arith) (held-valid .limits-small) s)
+      omega (arith, held-limit s l, every-getD (λ x. x ≤ mostLimit) (problemOf v .limits) 0 (omega arith) (held-valid .limits-small) s)
 
   pub held-load : (k : ℕ) (d : Load) → k < mostLoads → getD (v .loads) k d ≡ loadValue (getD (problemOf v .loads) k [])
   unfolding bookValue

@@ -52,7 +52,7 @@ module _ (one two : List ℕ) (m : Mills) (e : poolable one two ≡ done m) (c d
 
   together-keeps : KeepsLimits (pooled m) (c ++ d)
   together-keeps slot l =
-      let first : slot < T (m .a) = omega (arith, l, pooled-slots one two m read) in
+      let first : slot < T (m .a) = omega (arith, l, pooled-slots m) in
       let second : slot < T (m .b) = omega (arith, l, same-slots one two m read) in
       subst (λ (x : Power). apparentSquared x ≤ square (S (pooled m) slot)) (sym (sum-join slot c d))
       (subst (λ n. apparentSquared (plus (sumIn slot c) (sumIn slot d)) ≤ square n) (sym (limit-is slot first))

@@ -15,7 +15,7 @@ use Rattle.model.specs.Bounds.{mostSlots, mostOptions, mostLine}
 use Rattle.model.specs.Frames.{field, lineLength, lineOf, afterLine}
 use Rattle.model.specs.Refusals.{done}
 use Rattle.model.specs.Book.{Settings, slotCount, loadCount, statesRatio, ratioDigits, ratioIn, optionCount, standingPairs, optionStart, headerRules, loadRules, readLoads}
-use Rattle.model.specs.Pool.{LongestBook}
+use Rattle.model.specs.Valid.{LongestBook}
 use Rattle.model.proofs.ListLaws.{within-is}
 use Rattle.model.proofs.FrameLaws.{line-le}
 use Rattle.model.proofs.RefusalLaws.{NoneApplies}

@@ -42,6 +42,19 @@ pub not-not : (t : Bool) → not (not t) ≡ t
 not-not true = refl
 not-not false = refl
 
+-- a rule that asks for two things: the first is not so, the second, or none
+pub first-out : (t u : Bool) → not t ≡ true → not (t && u) ≡ true
+first-out true u e = absurd (false≢true e)
+first-out false u e = refl
+
+pub second-out : (t u : Bool) → not t ≡ false → not u ≡ true → not (t && u) ≡ true
+second-out true u e f = f
+second-out false u e f = absurd (false≢true (sym e))
+
+pub none-out : (t u : Bool) → not t ≡ false → not u ≡ false → not (t && u) ≡ false
+none-out true u e f = f
+none-out false u e f = e
+
 -- a test after another that was passed, or was not
 pub when-true : (s t : Bool) → s ≡ true → t ≡ (s && t)
 when-true s t e = sym (ap (λ x. x && t) e)

@@ -9,22 +9,24 @@ use native.Mathlib.Nat.{le-trans, mul-le-mul-right}
 use native.Mathlib.Omega.{arith}
 use lib.Dec.{ltb, eqb}
 use lib.IntN.{natAbs}
-use lib.ListN.{length-append}
+use lib.ListN.{length, length-append}
 use borrow.Author.Tests.{le-ltb, ltb-false, eqb-true, not-false}
 use Rattle.model.specs.declared.Finding.the-variants.{Passed}
 use Rattle.model.specs.Lists.{Every, any}
-use Rattle.model.specs.Bounds.{mostLoads, mostLimit}
+use Rattle.model.specs.Bounds.{mostLoads, mostLimit, mostBook}
 use Rattle.model.specs.Frames.{lineOf, afterLine}
-use Rattle.model.specs.Refusals.{Result, refused, done, first, checked, andThen}
+use Rattle.model.specs.Refusals.{Result, refused, done, first, andThen}
 use Rattle.model.specs.Book.{Power, Setting, Settings, Problem, slotCount, loadCount, settings, reactiveExceeds, someExceeds, loadRules, readLoads, readBook}
+use Rattle.model.specs.Answers.{inRoom}
 use Rattle.model.specs.Valid.{ValidBook}
 use Rattle.model.specs.Demand.{T, S, N}
-use Rattle.model.specs.Pool.{later, Mills, readBoth, limitSums, pairRules, poolable, pooled, headerLine, pooledWith, pooledBytes, ReadsBack, AlwaysRoom}
+use Rattle.model.specs.Pool.{later, Mills, withSecond, matching, readBoth, limitSums, pairRules, poolable, pooled, headerLine, pooledWith, pooledBytes, poolResult, ReadsBack, AlwaysRoom}
 use Rattle.model.proofs.ListLaws.{both-true, every-imp, any-false, any-none}
 use Rattle.model.proofs.UptoLaws.{length-upto}
 use Rattle.model.proofs.FrameLaws.{line-before, after-before, has-before}
 use Rattle.model.proofs.RefusalLaws.{refused-done, done-same, checked-done, then-done, NoneApplies, first-passed}
 use Rattle.model.proofs.ValidLaws.{LoadsRead, loads-read, loads-back, loads-none, book-read, loads-count, slots-count, ratio-is, book-valid}
+use Rattle.model.proofs.AnswerLaws.{room-fits}
 use Rattle.model.proofs.LengthLaws.{longest-book}
 use Rattle.model.proofs.HeaderLaws.{HeaderFits, header-back}
 
@@ -96,11 +98,9 @@ pub record PoolRead (one two : List ℕ) (m : Mills) : Type 0 where
 pub pool-read : (one two : List ℕ) (m : Mills) → poolable one two ≡ done m → PoolRead one two m
 unfolding poolable readBoth
 pool-read one two m e =
-    let second : Problem → Result Mills = λ a. andThen (later (suc (N a)) (readBook two)) (λ b. done (record { a = a; b = b })) in
-    let rules : Mills → Result Mills = λ x. checked 0 (first (pairRules x)) (done x) in
-    let x : (x : Mills) × (andThen (readBook one) second ≡ done x) × (rules x ≡ done m) = then-done (andThen (readBook one) second) rules m e in
+    let x : (x : Mills) × (andThen (readBook one) (withSecond two) ≡ done x) × (matching x ≡ done m) = then-done (andThen (readBook one) (withSecond two)) matching m e in
     let c : (first (pairRules (x .0)) ≡ Passed) × (Path (Result Mills) (done (x .0)) (done m)) = checked-done 0 (first (pairRules (x .0))) (done (x .0)) m (x .2) in
-    let a : (a : Problem) × (readBook one ≡ done a) × (second a ≡ done (x .0)) = then-done (readBook one) second (x .0) (x .1) in
+    let a : (a : Problem) × (readBook one ≡ done a) × (withSecond two a ≡ done (x .0)) = then-done (readBook one) (withSecond two) (x .0) (x .1) in
     let b : (b : Problem) × (later (suc (N (a .0))) (readBook two) ≡ done b) × (Path (Result Mills) (done (record { a = a .0; b = b })) (done (x .0)))
     = then-done (later (suc (N (a .0))) (readBook two)) (λ b. done (record { a = a .0; b = b })) (x .0) (a .2) in
     built (a .0) (b .0) (x .0) (a .1) (later-done (suc (N (a .0))) (readBook two) (b .0) (b .1)) (done-same (record { a = a .0; b = b .0 }) (x .0) (b .2))
@@ -111,6 +111,14 @@ pool-read one two m e =
     built a b x p q same none there =
         subst (PoolRead one two) (same ∙ there)
         (record { reads-one = p; reads-two = q; rules = subst (λ y. NoneApplies (pairRules y)) (sym same) none })
+
+-- T and N of the pooled book
+pub pooled-slots : (m : Mills) → T (pooled m) ≡ T (m .a)
+unfolding limitSums
+pooled-slots m = length-upto (λ slot. S (m .a) slot + S (m .b) slot) (T (m .a))
+
+pub pooled-loads : (m : Mills) → N (pooled m) ≡ N (m .a) + N (m .b)
+pooled-loads m = length-append (m .a .loads) (m .b .loads)
 
 module _ (one two : List ℕ) (m : Mills) (read : PoolRead one two m) where
   valid-one : ValidBook (m .a)
@@ -137,21 +145,13 @@ module _ (one two : List ℕ) (m : Mills) (read : PoolRead one two m) where
       every-imp (λ s. ltb mostLimit s ≡ false) (λ s. s ≤ mostLimit) (λ s e. ltb-false mostLimit s e) (limitSums m)
       (any-false (ltb mostLimit) (limitSums m) (read .rules .1 .1 .0))
 
-  -- T and N of the pooled book
-  pub pooled-slots : T (pooled m) ≡ T (m .a)
-  unfolding limitSums
-  pooled-slots = length-upto (λ slot. S (m .a) slot + S (m .b) slot) (T (m .a))
-
-  pooled-loads : N (pooled m) ≡ N (m .a) + N (m .b)
-  pooled-loads = length-append (m .a .loads) (m .b .loads)
-
   pooled-fits : HeaderFits (pooled m)
   pooled-fits =
       let a = valid-one in
       let b = valid-two in
       record {
-        slots = (omega (arith, pooled-slots, a .slots-some), omega (arith, pooled-slots, a .slots-few));
-        loads = (omega (arith, pooled-loads, a .loads-some), omega (arith, pooled-loads, few-loads));
+        slots = (omega (arith, pooled-slots m, a .slots-some), omega (arith, pooled-slots m, a .slots-few));
+        loads = (omega (arith, pooled-loads m, a .loads-some), omega (arith, pooled-loads m, few-loads));
         fineness = (a .fine-some, a .fine-few);
         ratio = (omega (arith, a .ratio-some), omega (arith, a .ratio-few, b .ratio-few));
         budget = omega (arith, a .budget-small, b .budget-small);
@@ -171,10 +171,10 @@ module _ (one two : List ℕ) (m : Mills) (read : PoolRead one two m) where
       let r₁ : m .a .ratio ≤ pooled m .ratio = omega arith in
       let r₂ : m .b .ratio ≤ pooled m .ratio = omega arith in
       loads-join (m .a .ratio) (pooled m .ratio) r₁ (T (pooled m)) (N (m .a)) (N (m .b)) (afterLine one) (afterLine two) (m .a .loads) (m .b .loads) 2
-      (lines-read one (m .a) (read .reads-one) (sym pooled-slots))
+      (lines-read one (m .a) (read .reads-one) (sym (pooled-slots m)))
       (loads-alone (T (pooled m)) (m .b .ratio) (pooled m .ratio) (N (m .b)) 2 (afterLine two) (m .b .loads) r₂
-      (lines-read two (m .b) (read .reads-two) (sym same-slots ∙ sym pooled-slots)))
-      (N (pooled m)) pooled-loads 2
+      (lines-read two (m .b) (read .reads-two) (sym same-slots ∙ sym (pooled-slots m))))
+      (N (pooled m)) (pooled-loads m) 2
 
   bytes-read : readBook (pooledBytes one two m) ≡ done (pooled m)
   unfolding pooledWith
@@ -186,6 +186,11 @@ module _ (one two : List ℕ) (m : Mills) (read : PoolRead one two m) where
 pub reads-back : ReadsBack
 reads-back one two m e = bytes-read one two m (pool-read one two m e)
 
--- a buffer for the longest book has room for the pooled one
+-- A BUFFER FOR THE LONGEST BOOK has room for the pooled one
+pub pooled-few : (one two : List ℕ) (m : Mills) → poolable one two ≡ done m → length (pooledBytes one two m) ≤ mostBook
+pooled-few one two m e = longest-book (pooledBytes one two m) (pooled m) (reads-back one two m e)
+
 pub always-room : AlwaysRoom
-always-room one two m e = longest-book (pooledBytes one two m) (pooled m) (reads-back one two m e)
+unfolding poolResult
+always-room one two m room e h =
+    ap (λ x. andThen x (λ y. inRoom (pooledBytes one two y) room)) e ∙ room-fits (pooledBytes one two m) room (le-trans (pooled-few one two m e) h)

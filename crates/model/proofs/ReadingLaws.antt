@@ -11,7 +11,7 @@ use Rattle.model.specs.Refusals.{Result, refused, done, andThen}
 use Rattle.model.specs.Answers.{Output, Writes, refusalAnswer}
 use Rattle.model.specs.Book.{Problem, readBook}
 use Rattle.model.specs.Values.{Held, problemOf, readingOf}
-use Rattle.model.proofs.RefusalLaws.{number-some, Bounded}
+use Rattle.model.proofs.RefusalLaws.{number-some, RefusalMost}
 use Rattle.model.proofs.ValidLaws.{book-valid, book-bounded}
 use Rattle.model.proofs.ValueLaws.{book-kept}
 
@@ -65,5 +65,5 @@ module _ (bytes : List ℕ) (v : Reading) (is : v ≡ readingOf (readBook bytes)
 -- its line is small
 pub refused-line : (bytes : List ℕ) (answer : Answer) (x : BookRefused bytes answer) → answer .line ≤ 257
 refused-line bytes answer x =
-    let most : x .line ≤ 257 = subst (λ (y : Result Problem). Bounded 8 257 y) (x .is) (book-bounded bytes) .1 in
+    let most : x .line ≤ 257 = subst (λ (y : Result Problem). RefusalMost 8 257 y) (x .is) (book-bounded bytes) .1 in
     omega (arith, ap (λ (a : Answer). a .line) (x .answers), most)

@@ -125,19 +125,19 @@ module _ (n : ℕ) where
 
 -- of a result: where it is a refusal, its number is at most n and its line at most m
 module _ (n m : ℕ) where
-  abbrev pub Bounded : {A : Type 0} → Result A → Type 0
-  Bounded (refused r line) = (numberOf r ≤ n) × (line ≤ m)
-  Bounded (done x) = Unit {0}
+  abbrev pub RefusalMost : {A : Type 0} → Result A → Type 0
+  RefusalMost (refused r line) = (numberOf r ≤ n) × (line ≤ m)
+  RefusalMost (done x) = Unit {0}
 
   module _ {A : Type 0} where
-    pub checked-bounded : (line : ℕ) (rs : List Rule) (x : Result A) → line ≤ m → RulesMost n rs → Bounded x → Bounded (checked line (first rs) x)
-    checked-bounded line rs x l h k = go (first rs) (first-most n rs)
+    pub checked-refusal : (line : ℕ) (rs : List Rule) (x : Result A) → line ≤ m → RulesMost n rs → RefusalMost x → RefusalMost (checked line (first rs) x)
+    checked-refusal line rs x l h k = go (first rs) (first-most n rs)
       where
-        go : (f : Finding) → ((r : Refusal) → RulesMost n rs → f ≡ Refused r → numberOf r ≤ n) → Bounded (checked line f x)
+        go : (f : Finding) → ((r : Refusal) → RulesMost n rs → f ≡ Refused r → numberOf r ≤ n) → RefusalMost (checked line f x)
         go Passed q = k
         go (Refused r) q = (q r h refl, l)
 
   module _ {A B : Type 0} where
-    pub then-bounded : (x : Result A) (f : A → Result B) → Bounded x → ((a : A) → Bounded (f a)) → Bounded (andThen x f)
-    then-bounded (refused r line) f h k = h
-    then-bounded (done a) f h k = k a
+    pub then-refusal : (x : Result A) (f : A → Result B) → RefusalMost x → ((a : A) → RefusalMost (f a)) → RefusalMost (andThen x f)
+    then-refusal (refused r line) f h k = h
+    then-refusal (done a) f h k = k a

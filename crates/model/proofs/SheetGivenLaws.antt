@@ -28,7 +28,7 @@ use Rattle.model.specs.Valid.{ValidBook}
 use Rattle.model.specs.Demand.{Past12, SomeAdmitted, NumberIs, Answered}
 use Rattle.model.specs.Answers.{Output, answerOf}
 use Rattle.model.proofs.IntegerLaws.{split}
-use Rattle.model.proofs.RefusalLaws.{number-some, NoneApplies, first-passed, first-none, first-most, RulesMost, Bounded}
+use Rattle.model.proofs.RefusalLaws.{number-some, NoneApplies, first-passed, first-none, first-most, RulesMost, RefusalMost}
 use Rattle.model.proofs.PlanLaws.{plan-is, plan-none, keeps-admissible}
 use Rattle.model.proofs.QuickLaws.{firsts-chosen, quick-short, quick-over, quick-given}
 use Rattle.model.proofs.ValidLaws.{book-valid, book-bounded}
@@ -110,7 +110,7 @@ module _ (p : Problem → Option Choice) where
         at-size b e (Refused r) q n = not-past r (first-most 12 (sizeRules b words room) r (size-rules-most b) q) n
         at-size b e Passed q n = at-budget b e q (ltb (b .budget) (trials b)) refl n
 
-        at-book : (x : Result Problem) → readBook book ≡ x → Bounded 8 257 x → Past (answerOf (andThen (andThen x (fitting words room)) (planSheet p)) .number)
+        at-book : (x : Result Problem) → readBook book ≡ x → RefusalMost 8 257 x → Past (answerOf (andThen (andThen x (fitting words room)) (planSheet p)) .number)
             → (b : Problem) × Past12 book words room b
         at-book (refused r line) e h n = not-past r (omega arith) n
         at-book (done b) e h n = at-size b e (first (sizeRules b words room)) refl n
@@ -204,7 +204,7 @@ quick-exactly book room =
     at-room b (inl l) e = absurd (omega (arith, e, ap (λ r. answerOf r .number) (quick-short b room l)))
     at-room b (inr l) e = (l, at-start b l (keepsLimits (slotsOf b) (firstSettings b)) refl e)
 
-    at-book : (x : Result Problem) → readBook book ≡ x → Bounded 8 257 x → answerOf (andThen x (quickSheet room)) .number ≡ 17
+    at-book : (x : Result Problem) → readBook book ≡ x → RefusalMost 8 257 x → answerOf (andThen x (quickSheet room)) .number ≡ 17
         → (b : Problem) × (readBook book ≡ done b) × (sheetLength b ≤ room) × (keepsLimits (slotsOf b) (firstSettings b) ≡ false)
     at-book (refused r line) q h e = absurd (omega arith)
     at-book (done b) q h e = let x = at-room b (split room (sheetLength b)) e in (b, q, x .0, x .1)

@@ -37,10 +37,10 @@ two-mul-le a b = go (decLe a b)
 pub sq-sum : (a b : ℕ) → (a + b) * (a + b) ≤ 2 * (a * a + b * b)
 sq-sum a b = omega (arith, two-mul-le a b)
 
--- in the plane: two pairs within s and t have a sum within s + t
 cauchy : (a b c d : ℕ) → (a * c + b * d) * (a * c + b * d) ≤ (a * a + b * b) * (c * c + d * d)
 cauchy a b c d = omega (arith, two-mul-le (a * d) (b * c))
 
+-- in the plane: two pairs within s and t have a sum within s + t
 pub minkowski : (a b c d s t : ℕ) → a * a + b * b ≤ s * s → c * c + d * d ≤ t * t
     → (a + c) * (a + c) + (b + d) * (b + d) ≤ (s + t) * (s + t)
 minkowski a b c d s t h k =

@@ -12,7 +12,7 @@ use lib.ListN.{length, getD}
 use borrow.Author.Tests.{lt-ltb, ltb-true, ltb-false, not-false}
 use Rattle.model.specs.declared.Finding.the-variants.{Passed}
 use Rattle.model.specs.Lists.{within, uptoFrom, upto, keepIf, any, isEmpty, Every}
-use Rattle.model.specs.Bounds.{mostSlots, mostLoads, mostFineness, mostRatio, mostSheet}
+use Rattle.model.specs.Bounds.{mostSlots, mostLoads, mostFineness, mostRatio, mostLimit, mostSheet}
 use Rattle.model.specs.Frames.{field, lineLength, lineOf, afterLine}
 use Rattle.model.specs.Refusals.{Result, done, first, checked, andThen}
 use Rattle.model.specs.Book.{Power, noPower, Setting, Settings, Problem, slotCount, loadCount, finenessIn, ratioDigits, ratioIn, problem, optionCount, standingPairs, mustRun, optionStart, powerAt, optionOn, options, standingPower, standing, settings, lineRule, headerRules, reactiveExceeds, someExceeds, loadRules, endRules, readLoads, readBook}
@@ -23,7 +23,7 @@ use Rattle.model.specs.Valid.{SettingKept, Numbered, Labelled, SettingSm
 use Rattle.model.proofs.ListLaws.{both-true, within-is, every-at, every-imp, every-image, every-getD, any-false}
 use Rattle.model.proofs.UptoLaws.{length-upto}
 use Rattle.model.proofs.FrameLaws.{field-below, signed-small}
-use Rattle.model.proofs.RefusalLaws.{done-same, checked-done, then-done, NoneApplies, first-passed, first-none, RulesMost, Bounded, checked-bounded, then-bounded}
+use Rattle.model.proofs.RefusalLaws.{done-same, checked-done, then-done, NoneApplies, first-passed, first-none, RulesMost, RefusalMost, checked-refusal, then-refusal}
 use Rattle.model.proofs.NumberLaws.{numbered-least, labelled-from}
 
 -- ---- the settings that a line gives
@@ -181,11 +181,11 @@ loads-back t r left number bytes loads h =
     ∙ ap (λ x. andThen x more) (h .rest)
     ∙ ap (λ ls. done ls) (h .same)
 
--- where no line is left there is no load, and no byte
 empty-is : (bytes : List ℕ) → not (isEmpty bytes) ≡ false → [] ≡ bytes
 empty-is [] e = refl
 empty-is (b ∷ bs) e = absurd (false≢true (sym e))
 
+-- where no line is left there is no load, and no byte
 pub loads-none : (t r number : ℕ) (bytes : List ℕ) (loads : List Settings) → readLoads t r 0 number bytes ≡ done loads → ([] ≡ bytes) × ([] ≡ loads)
 unfolding readLoads
 loads-none t r number bytes loads e =
@@ -295,9 +295,9 @@ module _ (bytes : List ℕ) (b : Problem) (e : readBook bytes ≡ done b) where
         ratio-some = omega (arith, ratio-is, h .ratio .0);
         ratio-few = omega (arith, ratio-is, h .ratio .1);
         budget-small = omega (arith, ap (λ (x : Problem). x .budget) (read .same), field-below line (8 + ratioDigits line) 8);
-        limits-small = subst (λ (x : Problem). Every (λ s. s < 65536) (x .limits)) (read .same)
-            (every-image (λ s. s < 65536) (λ s. field line (16 + ratioDigits line + 4 * s) 4) (upto (slotCount line))
-            (λ s. field-below line (16 + ratioDigits line + 4 * s) 4));
+        limits-small = subst (λ (x : Problem). Every (λ s. s ≤ mostLimit) (x .limits)) (read .same)
+            (every-image (λ s. s ≤ mostLimit) (λ s. field line (16 + ratioDigits line + 4 * s) 4) (upto (slotCount line))
+            (λ s. omega (arith, field-below line (16 + ratioDigits line + 4 * s) 4)));
       }
 
 pub load-labelled : {b : Problem} → ValidBook b → (k : ℕ) → k < length (b .loads) → Labelled (getD (b .loads) k [])
@@ -313,23 +313,23 @@ header-rules-most : (line : List ℕ) → RulesMost 8 (headerRules line)
 unfolding headerRules
 header-rules-most line = (omega arith, (omega arith, (omega arith, (omega arith, (omega arith, tt)))))
 
-loads-bounded : (m t r left number : ℕ) (bytes : List ℕ) → number + left ≤ m → Bounded 8 m (readLoads t r left number bytes)
+loads-bounded : (m t r left number : ℕ) (bytes : List ℕ) → number + left ≤ m → RefusalMost 8 m (readLoads t r left number bytes)
 unfolding readLoads
-loads-bounded m t r zero number bytes h = checked-bounded 8 m number (endRules bytes) (done []) (omega (arith, h)) (omega arith, tt) tt
+loads-bounded m t r zero number bytes h = checked-refusal 8 m number (endRules bytes) (done []) (omega (arith, h)) (omega arith, tt) tt
 loads-bounded m t r (suc left) number bytes h =
     let rest : Result (List Settings) = readLoads t r left (suc number) (afterLine bytes) in
     let more : List Settings → Result (List Settings) = λ ls. done (settings t (lineOf bytes) ∷ ls) in
-    checked-bounded 8 m number (lineRule bytes ∷ loadRules t r (lineOf bytes)) (andThen rest more) (omega (arith, h)) (omega arith, load-rules-most t r (lineOf bytes))
-    (then-bounded 8 m rest more (loads-bounded m t r left (suc number) (afterLine bytes) (omega (arith, h))) (λ ls. tt))
+    checked-refusal 8 m number (lineRule bytes ∷ loadRules t r (lineOf bytes)) (andThen rest more) (omega (arith, h)) (omega arith, load-rules-most t r (lineOf bytes))
+    (then-refusal 8 m rest more (loads-bounded m t r left (suc number) (afterLine bytes) (omega (arith, h))) (λ ls. tt))
 
-pub book-bounded : (bytes : List ℕ) → Bounded 8 257 (readBook bytes)
+pub book-bounded : (bytes : List ℕ) → RefusalMost 8 257 (readBook bytes)
 unfolding readBook
 book-bounded bytes =
     let line : List ℕ = lineOf bytes in
     let rest : Result (List Settings) = readLoads (slotCount line) (ratioIn line) (loadCount line) 2 (afterLine bytes) in
     let whole : List Settings → Result Problem = λ ls. done (problem line ls) in
-    checked-bounded 8 257 1 (lineRule bytes ∷ headerRules line) (andThen rest whole) (omega arith) (omega arith, header-rules-most line)
-    (then-bounded 8 257 rest whole
+    checked-refusal 8 257 1 (lineRule bytes ∷ headerRules line) (andThen rest whole) (omega arith) (omega arith, header-rules-most line)
+    (then-refusal 8 257 rest whole
     (loads-bounded 257 (slotCount line) (ratioIn line) (loadCount line) 2 (afterLine bytes) (omega (arith, field-below line 4 2))) (λ ls. tt))
 
 -- no sheet has more than 159 bytes

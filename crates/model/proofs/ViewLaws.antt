@@ -1,7 +1,7 @@
--- M-103: a view and its room, the length of the mill's view, and of the supply company's that its lines are the sheet's, and what one call and two calls
+-- M-103: the length of the mill's view, and of the supply company's that its lines are the sheet's, and what one call and two calls
 -- tell.
 -- Assumes nothing.
-use Prim.Native.Nat.{ℕ, _+_, _*_, _^_, _<_}
+use Prim.Native.Nat.{ℕ, _+_, _*_, _^_, _<_, _≤_}
 use mathlib.Core.Path.{_≡_, refl, sym, ap, ap₂, _∙_, subst}
 use mathlib.Core.List.{List, [], _∷_, _++_, map, append-assoc}
 use native.Mathlib.Omega.{arith}
@@ -10,6 +10,7 @@ use lib.ListN.{length, drop, length-append}
 use lib.Seq.{drop-at}
 use Rattle.model.specs.declared.Answer.{Answer}
 use Rattle.model.specs.Lists.{upto, Every, concat}
+use Rattle.model.specs.Bounds.{mostLimit}
 use Rattle.model.specs.Frames.{digits, unsigned}
 use Rattle.model.specs.Refusals.{Result, done, andThen}
 use Rattle.model.specs.Answers.{Output, Writes}
@@ -145,7 +146,7 @@ sums-small b c valid chosen =
     record {
       active = omega (arith, small .active);
       reactive = omega (arith, small .reactive);
-      limit = every-getD (λ l. l < 65536) (b .limits) 0 (omega arith) (valid .limits-small) s;
+      limit = omega (arith, every-getD (λ l. l ≤ mostLimit) (b .limits) 0 (omega arith) (valid .limits-small) s);
     })
 
 pub other-seen : OtherSeen

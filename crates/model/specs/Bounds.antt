@@ -1,5 +1,5 @@
--- Document 01's bounds, those of document 02's M-107, M-108 and M-110, and the sizes that follow from them, each number once. The code has them as constants of the
--- types that they bound, and the program's two in crate program. The largest charges follow from them too.
+-- Document 01's bounds, those of document 02's M-107 and M-108, and the sizes that follow from them, each number once. The code has them as constants of the
+-- types that they bound, the program's two in crate program, and the longest line and book not at all. The largest charges follow from them too.
 use Prim.Native.Nat.{ℕ, _*_, _+_, _/_}
 
 -- "T is the number of slots (quarter hours), 1 to 4. N is the number of loads, 1 to 24. d, the fineness, is 1 to 64. o, the options (levels) of a
@@ -20,7 +20,7 @@ mostOptions = 3
 abbrev pub mostRatio : ℕ
 mostRatio = 3
 
--- a limit has 4 digits; "23 when a limit sum exceeds 65,535" (M-110)
+-- "S, P and worth are 0 to 65,535"; document 02, M-110: "23 when a limit sum exceeds 65,535"
 abbrev pub mostLimit : ℕ
 mostLimit = 65535
 
@@ -41,10 +41,11 @@ mostCells = 1_048_576
 abbrev pub mostRows : ℕ
 mostRows = 724
 
--- the bytes of the longest book: a header of kind `08`, and load lines of kind `06` with three levels, each line with its LF
+-- the bytes of the longest load line, of kind `06` with three levels, with its LF
 abbrev pub mostLine : ℕ
 mostLine = 4 + 8 * mostSlots + mostOptions * (4 + 8 * mostSlots) + 1
 
+-- and of the longest book: a header of kind `08` with its LF, and such lines
 abbrev pub mostBook : ℕ
 mostBook = 18 + 4 * mostSlots + 1 + mostLoads * mostLine
 

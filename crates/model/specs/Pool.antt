@@ -11,7 +11,7 @@ use Rattle.model.specs.Lists.{upto, any, concat}
 use Rattle.model.specs.Bounds.{mostLoads, mostLimit, mostBook}
 use Rattle.model.specs.Frames.{digits, field, afterLine}
 use Rattle.model.specs.Refusals.{Result, refused, done, Rule, _⇒_, first, checked, andThen}
-use Rattle.model.specs.Answers.{Output, Writes, inRoom}
+use Rattle.model.specs.Answers.{Output, bytesOnly, Writes, inRoom}
 use Rattle.model.specs.Book.{Problem, readBook}
 use Rattle.model.specs.Choice.{Choice, IsChoice, worthOf}
 use Rattle.model.specs.Sheet.{lf}
@@ -30,9 +30,13 @@ pub record Mills : Type 0 where
   pub a : Problem
   pub b : Problem
 
--- "Faults are tried through the first book, then the second, whose lines count on from the first's last", which is N1 + 1
+-- the second after the first, "whose lines count on from the first's last", which is N1 + 1
+abbrev pub withSecond : List ℕ → Problem → Result Mills
+withSecond two a = andThen (later (suc (N a)) (readBook two)) (λ b. done (record { a = a; b = b }))
+
+-- "Faults are tried through the first book, then the second"
 unfoldable pub readBoth : List ℕ → List ℕ → Result Mills
-readBoth one two = andThen (readBook one) (λ a. andThen (later (suc (N a)) (readBook two)) (λ b. done (record { a = a; b = b })))
+readBoth one two = andThen (readBook one) (withSecond two)
 
 -- "each slot's limit the sum of the two"; past 21 both have as many slots
 unfoldable pub limitSums : Mills → List ℕ
@@ -46,9 +50,13 @@ pairRules m =
     ∷ (any (ltb mostLimit) (limitSums m) ⇒ LimitSumTooLarge)
     ∷ []
 
+-- two books that were read, after these
+abbrev pub matching : Mills → Result Mills
+matching m = checked 0 (first (pairRules m)) (done m)
+
 -- two books that can be pooled: none of 1 to 8 applies to the one or the other, and none of 21 to 23 to both
 unfoldable pub poolable : List ℕ → List ℕ → Result Mills
-poolable one two = andThen (readBoth one two) (λ m. checked 0 (first (pairRules m)) (done m))
+poolable one two = andThen (readBoth one two) matching
 
 -- ---- the pooled book
 
@@ -86,15 +94,12 @@ poolResult one two room = andThen (poolable one two) (λ m. inRoom (pooledBytes 
 abbrev pub ReadsBack : Type 0
 ReadsBack = (one two : List ℕ) (m : Mills) → poolable one two ≡ done m → readBook (pooledBytes one two m) ≡ done (pooled m)
 
--- no book that is read is longer than 3,515 bytes (proofs/LengthLaws, `longest-book`); so a buffer of that size never gives 11 (proofs/PoolLaws,
--- `always-room`)
-abbrev pub LongestBook : Type 0
-LongestBook = (book : List ℕ) (b : Problem) → readBook book ≡ done b → length book ≤ mostBook
-
+-- with a buffer for the longest book 11 is never given (proofs/PoolLaws, `always-room`)
 abbrev pub AlwaysRoom : Type 0
-AlwaysRoom = (one two : List ℕ) (m : Mills) → poolable one two ≡ done m → length (pooledBytes one two m) ≤ mostBook
+AlwaysRoom = (one two : List ℕ) (m : Mills) (room : ℕ) → poolable one two ≡ done m → mostBook ≤ room
+    → poolResult one two room ≡ done (bytesOnly (pooledBytes one two m))
 
--- "If one choice keeps every limit in the first book, another in the second, and the plain planner answers the pooled book with a sheet": such choices
+-- "one choice keeps every limit in the first book, another in the second"
 pub record BothKeep (m : Mills) (c d : Choice) : Type 0 where
   pub of-first : IsChoice (m .a .loads) c
   pub keeps-first : KeepsLimits (m .a) c
@@ -110,8 +115,8 @@ pub record Pooled (one two bytes : List ℕ) : Type 0 where
   pub reads : readBook bytes ≡ done (pooled mills)
   -- two such choices are, one after the other, a choice of the pooled book that keeps its limits; so this goes on where it is pooled with a third
   pub together : (c d : Choice) → BothKeep mills c d → IsChoice (pooled mills .loads) (c ++ d) × KeepsLimits (pooled mills) (c ++ d)
-  -- of every call of the plain planner with these bytes, where such choices are: "that sheet is worth at least both together", by the worth on the sheet that
-  -- it wrote; and it does not give 17
+  -- "and the plain planner answers the pooled book with a sheet, then that sheet is worth at least both together": of every call of the planner with these
+  -- bytes, by the worth on the sheet that it wrote; and it does not give 17
   pub joint : (c d : Choice) → BothKeep mills c d → (words : ℕ) (before after : List ℕ) (answer : Answer)
       → Writes (plannerResult bytes words (length before)) before after answer
       → (answer .number ≡ 0 → worthOf c + worthOf d ≤ field after 2 8) × (answer .number ≡ 17 → ⊥)

@@ -5,8 +5,9 @@ use mathlib.Core.List.{List, [], _∷_}
 use lib.IntN.{natAbs}
 use lib.ListN.{length}
 use Rattle.model.specs.Lists.{Every}
-use Rattle.model.specs.Bounds.{mostSlots, mostLoads, mostFineness, mostRatio, mostOptions, mostSettings}
-use Rattle.model.specs.Book.{Setting, Settings, Problem}
+use Rattle.model.specs.Bounds.{mostSlots, mostLoads, mostFineness, mostRatio, mostOptions, mostLimit, mostSettings, mostBook}
+use Rattle.model.specs.Refusals.{done}
+use Rattle.model.specs.Book.{Setting, Settings, Problem, readBook}
 use Rattle.model.specs.Choice.{leastOf, powerIn}
 use Rattle.model.specs.Grid.{Slot}
 
@@ -52,7 +53,11 @@ pub record ValidBook (b : Problem) : Type 0 where
   pub ratio-some : 1 ≤ b .ratio
   pub ratio-few : b .ratio ≤ mostRatio
   pub budget-small : b .budget < 2 ^ 32
-  pub limits-small : Every (λ s. s < 65536) (b .limits)
+  pub limits-small : Every (λ s. s ≤ mostLimit) (b .limits)
+
+-- no book that is read is longer than 3,515 bytes (proofs/LengthLaws, `longest-book`)
+abbrev pub LongestBook : Type 0
+LongestBook = (book : List ℕ) (b : Problem) → readBook book ≡ done b → length book ≤ mostBook
 
 -- ---- what the search asks of slots and loads
 

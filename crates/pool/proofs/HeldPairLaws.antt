@@ -1,7 +1,7 @@
 -- Two books that values hold: the sums of their limits, refusals 21 to 23, and the header of the pooled book.
 -- Assumes nothing.
 use Prim.Native.Nat.{ℕ, _+_, _*_, _<_, _≤_, max}
-use mathlib.Core.Path.{_≡_, refl, sym, ap, ap₂, _∙_}
+use mathlib.Core.Path.{_≡_, sym, ap, ap₂, _∙_}
 use mathlib.Core.Bool.{Bool, true, false, not, _&&_}
 use mathlib.Core.List.{List, [], _∷_, _++_, map, append-assoc, append-nil}
 use native.Mathlib.Omega.{arith}
@@ -16,10 +16,11 @@ use Rattle.model.specs.Demand.{T, S, N}
 use Rattle.model.specs.Pool.{Mills, limitSums, pooled, headerLine, pooledWith}
 use Rattle.model.specs.Sheet.{lf}
 use Rattle.model.specs.Values.{Held, problemOf}
-use Rattle.model.proofs.ListLaws.{length-concat}
-use Rattle.model.proofs.UptoLaws.{length-upto, take-upto, getD-upto, map-same}
+use Rattle.model.proofs.ListLaws.{second-out, length-concat}
+use Rattle.model.proofs.UptoLaws.{take-upto, getD-upto, map-same}
 use Rattle.model.proofs.FrameLaws.{length-digits}
 use Rattle.model.proofs.HeaderLaws.{length-header}
+use Rattle.model.proofs.PoolLaws.{pooled-slots, pooled-loads}
 use Rattle.model.proofs.HeldLaws.{held-count, held-slots, held-four, held-limit}
 use Rattle.hex.specs.Written.{written}
 use Rattle.hex.proofs.WrittenLaws.{write-on, write-line-three}
@@ -44,8 +45,7 @@ module _ (a b : Book) (ha : Held a) (hb : Held b) where
       ∙ sums-pooled
 
   slots-pooled : T (pooled (millsOf a b)) ≡ a .slots
-  unfolding limitSums
-  slots-pooled = length-upto (λ s. S (problemOf a) s + S (problemOf b) s) (T (problemOf a)) ∙ sym (held-slots a ha)
+  slots-pooled = pooled-slots (millsOf a b) ∙ sym (held-slots a ha)
 
   taken-are : (sums : List ℕ) → sums ≡ map sumAt (upto mostSlots) → take (a .slots) sums ≡ limitSums (millsOf a b)
   taken-are sums e = ap (take (a .slots)) e ∙ take-upto sumAt (a .slots) mostSlots (held-four a ha) ∙ sums-pooled
@@ -61,13 +61,13 @@ module _ (a b : Book) (ha : Held a) (hb : Held b) where
       ap (λ t. not (t && eqb (problemOf a .fineness) (problemOf b .fineness)))
       (ne-eqb (T (problemOf a)) (T (problemOf b)) (λ e. n (held-slots a ha ∙ e ∙ sym (held-slots b hb))))
 
-  pub fineness-differs : (a .fineness ≡ b .fineness → ⊥) → differ ≡ true
+  pub fineness-differs : a .slots ≡ b .slots → (a .fineness ≡ b .fineness → ⊥) → differ ≡ true
   unfolding problemOf
-  fineness-differs n = ap (λ t. not (eqb (T (problemOf a)) (T (problemOf b)) && t)) (ne-eqb (a .fineness) (b .fineness) n) ∙ go (eqb (T (problemOf a)) (T (problemOf b)))
+  fineness-differs e n =
+      second-out (eqb (T (problemOf a)) (T (problemOf b))) (eqb (a .fineness) (b .fineness)) (ap not same-slots) (ap not (ne-eqb (a .fineness) (b .fineness) n))
     where
-      go : (t : Bool) → not (t && false) ≡ true
-      go true = refl
-      go false = refl
+      same-slots : eqb (T (problemOf a)) (T (problemOf b)) ≡ true
+      same-slots = eq-eqb (T (problemOf a)) (T (problemOf b)) (sym (held-slots a ha) ∙ e ∙ held-slots b hb)
 
   pub none-differs : a .slots ≡ b .slots → a .fineness ≡ b .fineness → differ ≡ false
   unfolding problemOf
@@ -103,7 +103,7 @@ module _ (a b : Book) (ha : Held a) (hb : Held b) where
       (sym (length-concat (digits 2) 2 (length-digits 2) (8 ∷ slots ∷ count ∷ a .fineness ∷ ratio ∷ []))) (omega (arith, length-digits 8 budget)) (omega (arith, long))
       (omega arith)
       ∙ ap (written l 0)
-      (ap₂ (λ x y. rows x y (a .fineness) ratio budget (take (a .slots) sums)) (t ∙ sym slots-pooled) (n ∙ counts-are ∙ sym (length-append (problemOf a .loads) (problemOf b .loads)))
+      (ap₂ (λ x y. rows x y (a .fineness) ratio budget (take (a .slots) sums)) (t ∙ sym slots-pooled) (n ∙ counts-are ∙ sym (pooled-loads m))
       ∙ ap₂ (λ x y. rows (T (pooled m)) (N (pooled m)) (a .fineness) x y (take (a .slots) sums)) r g
       ∙ ap (rows (T (pooled m)) (N (pooled m)) (a .fineness) (max (a .ratio) (b .ratio)) (max (a .budget) (b .budget))) (taken-are sums s)
       ∙ rows-are)

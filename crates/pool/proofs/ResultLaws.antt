@@ -14,12 +14,12 @@ use Rattle.model.specs.Answers.{Output, Writes, refusalAnswer, inRoom}
 use Rattle.model.specs.Book.{Problem, readBook}
 use Rattle.model.specs.Frames.{lineLength, afterLine}
 use Rattle.model.specs.Demand.{N}
-use Rattle.model.specs.Pool.{later, Mills, readBoth, pairRules, poolable, pooledBytes, poolResult}
+use Rattle.model.specs.Pool.{later, Mills, withSecond, matching, readBoth, pairRules, poolable, pooledBytes, poolResult}
 use Rattle.model.proofs.AnswerLaws.{writes-same, refused-writes}
 use Rattle.model.proofs.ValidLaws.{book-read}
 use Rattle.model.proofs.ReadingLaws.{BookRefused}
 use Rattle.model.proofs.PoolLaws.{PoolRead, pool-read}
-use Rattle.book.proofs.LoadsLaws.{rest-is}
+use Rattle.hex.proofs.FieldLaws.{rest-is}
 use Rattle.pool.specs.Mills.{laterAnswer}
 
 -- the part after a header line
@@ -30,12 +30,12 @@ module _ (one two : List ℕ) where
   pub both-read : (a b : Problem) → readBook one ≡ done a → readBook two ≡ done b → readBoth one two ≡ done (record { a = a; b = b })
   unfolding readBoth
   both-read a b e f =
-      ap (λ x. andThen x (λ p. andThen (later (suc (N p)) (readBook two)) (λ q. done (record { a = p; b = q })))) e
+      ap (λ x. andThen x (withSecond two)) e
       ∙ ap (λ x. andThen (later (suc (N a)) x) (λ q. done (record { a = a; b = q }))) f
 
   pub both-poolable : (m : Mills) → readBoth one two ≡ done m → first (pairRules m) ≡ Passed → poolable one two ≡ done m
   unfolding poolable
-  both-poolable m e f = ap (λ x. andThen x (λ y. checked 0 (first (pairRules y)) (done y))) e ∙ ap (λ g. checked 0 g (done m)) f
+  both-poolable m e f = ap (λ x. andThen x matching) e ∙ ap (λ g. checked 0 g (done m)) f
 
   -- both have a header line
   pub lines-there : (m : Mills) → poolable one two ≡ done m → (lineLength one < length one) × (lineLength two < length two)
@@ -50,7 +50,7 @@ module _ (one two : List ℕ) where
     first-refused answer x = refused-writes (poolResult one two (length buffer)) (x .refusal) (x .line) buffer answer (x .answers) (ap made (x .is))
       where
         made : Result Problem → Result Output
-        made x = andThen (andThen (andThen x (λ p. andThen (later (suc (N p)) (readBook two)) (λ q. done (record { a = p; b = q })))) (λ y. checked 0 (first (pairRules y)) (done y)))
+        made x = andThen (andThen (andThen x (withSecond two)) matching)
             (λ m. inRoom (pooledBytes one two m) (length buffer))
 
     -- of the second, whose lines count on
@@ -60,11 +60,11 @@ module _ (one two : List ℕ) where
     second-refused a e n q answer given x l =
         refused-writes (poolResult one two (length buffer)) (x .refusal) (suc (N a) + x .line) buffer given
         (l ∙ ap (laterAnswer n) (x .answers) ∙ ap (λ k. refusalAnswer (x .refusal) (k + x .line)) q)
-        (ap (λ y. made (andThen y (λ p. andThen (later (suc (N p)) (readBook two)) (λ r. done (record { a = p; b = r }))))) e
+        (ap (λ y. made (andThen y (withSecond two))) e
         ∙ ap (λ y. made (andThen (later (suc (N a)) y) (λ r. done (record { a = a; b = r })))) (x .is))
       where
         made : Result Mills → Result Output
-        made y = andThen (andThen y (λ z. checked 0 (first (pairRules z)) (done z))) (λ m. inRoom (pooledBytes one two m) (length buffer))
+        made y = andThen (andThen y matching) (λ m. inRoom (pooledBytes one two m) (length buffer))
 
     -- of both
     pub both-refused : (m : Mills) → readBoth one two ≡ done m → (r : Refusal) → first (pairRules m) ≡ Refused r → (answer : Answer) → answer ≡ refusalAnswer r 0
@@ -72,7 +72,7 @@ module _ (one two : List ℕ) where
     unfolding poolResult poolable
     both-refused m e r f answer g =
         refused-writes (poolResult one two (length buffer)) r 0 buffer answer g
-        (ap (λ y. andThen (andThen y (λ z. checked 0 (first (pairRules z)) (done z))) (λ z. inRoom (pooledBytes one two z) (length buffer))) e
+        (ap (λ y. andThen (andThen y matching) (λ z. inRoom (pooledBytes one two z) (length buffer))) e
         ∙ ap (λ h. andThen (checked 0 h (done m)) (λ z. inRoom (pooledBytes one two z) (length buffer))) f)
 
     -- else what there is room for

@@ -84,9 +84,9 @@ fn pair_finding(a: Book, b: Book) -> Finding
     if Book::LOADS < a.count + b.count {
         return Finding::Refused(Refusal::TooManyLoads);
     }
-    let own = a.limits;
-    let other = b.limits;
-    let sums = limit_sums(own, other);
+    let limits = a.limits;
+    let others = b.limits;
+    let sums = limit_sums(limits, others);
     if too_large(sums, a.slots) {
         return Finding::Refused(Refusal::LimitSumTooLarge);
     }
@@ -104,12 +104,12 @@ fn write_header(buf: &mut [u8], a: Book, b: Book)
     let count = (a.count + b.count) as u64;
     let ratio = larger(a.ratio, b.ratio);
     let budget = larger(a.budget, b.budget);
-    let own = a.limits;
-    let other = b.limits;
-    let limits = limit_sums(own, other);
+    let limits = a.limits;
+    let others = b.limits;
+    let sums = limit_sums(limits, others);
     hex::write_row(buf, 0, 2, &[8, slots, count, a.fineness, ratio]);
     hex::write(buf, 10, 8, budget);
-    hex::write_row(buf, 18, 4, &limits[..a.slots]);
+    hex::write_row(buf, 18, 4, &sums[..a.slots]);
     buf[18 + 4 * a.slots] = 10;
 }
 
@@ -121,14 +121,14 @@ fn write_pooled(a: Book, b: Book, lines: &[u8], others: &[u8], pooled: &mut [u8]
     ensures { λ r. ⌜ Writes (inRoom (pooledWith (millsOf a b) (now (lines .entry)) (now (others .entry))) (length (now (pooled .entry)))) (now (pooled .entry)) (now (pooled .exit)) r ⌝ }
 {
     let header = 19 + 4 * a.slots;
-    let own = header + lines.len();
-    let bytes = own + others.len();
+    let second = header + lines.len();
+    let bytes = second + others.len();
     if pooled.len() < bytes {
         return Answer::refusal(Refusal::BufferTooSmall, 0);
     }
     write_header(pooled, a, b);
-    hex::copy(lines, pooled, header);
-    hex::copy(others, pooled, own);
+    hex::copy(pooled, header, lines);
+    hex::copy(pooled, second, others);
     Answer::success(bytes as u64, 0, 0)
 }
 
@@ -143,9 +143,9 @@ fn pool_both(a: Book, b: Book, first: &[u8], second: &[u8], pooled: &mut [u8]) -
     if let Finding::Refused(r) = finding {
         return Answer::refusal(r, 0);
     }
-    let own = hex::line_length(first) + 1;
-    let other = hex::line_length(second) + 1;
-    write_pooled(a, b, &first[own..], &second[other..], pooled)
+    let lines = hex::line_length(first) + 1;
+    let others = hex::line_length(second) + 1;
+    write_pooled(a, b, &first[lines..], &second[others..], pooled)
 }
 
 // Pools a book that was read with a second one.

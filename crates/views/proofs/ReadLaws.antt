@@ -1,4 +1,4 @@
--- What is made of a book and a sheet that were read, and of a view and its room.
+-- What is made of a book and a sheet that were read.
 -- Assumes nothing.
 use Prim.Native.Nat.{ℕ}
 use mathlib.Core.Path.{_≡_, refl, sym, ap, _∙_}

@@ -3,8 +3,8 @@
 use super::ratios::with_ratio;
 use super::{book, filled, limit, loose_header, powers_of, stated, Bounds, Header, LOOSE};
 use crate::random::Random;
-use crate::reference::book::Book;
-use crate::reference::pool::{MOST_LIMIT, MOST_LOADS};
+use crate::reference::book::{Book, MOST_LOADS};
+use crate::reference::pool::MOST_LIMIT;
 use crate::reference::ratio;
 
 /// A book within the bounds, with loads enough for two.

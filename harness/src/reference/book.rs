@@ -11,6 +11,9 @@ const HEADER_KINDS: [u64; 2] = [0x01, 0x08];
 /// The kinds of load lines.
 const LOAD_KINDS: [u64; 3] = [0x02, 0x06, 0x07];
 
+/// The most loads.
+pub const MOST_LOADS: usize = 24;
+
 #[derive(Clone, Debug, PartialEq, Eq)]
 pub struct Book {
     pub fineness: u64,
@@ -195,7 +198,7 @@ fn header(line: &Line) -> Result<(u64, Book), Refusal> {
     let load_count = line.field(4, 2);
     let fineness = line.field(6, 2);
     let ratio = (more > 0).then(|| line.field(8, more) as i64);
-    let in_range = (1..=24).contains(&load_count) && (1..=64).contains(&fineness);
+    let in_range = (1..=MOST_LOADS as u64).contains(&load_count) && (1..=64).contains(&fineness);
     line.refuse_unless(in_range && ratio.is_none_or(|r| ratio::RANGE.contains(&r)), 6)?;
     let budget = 8 + more;
     let book = Book {

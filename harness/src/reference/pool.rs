@@ -1,15 +1,14 @@
 //! Two mills on one transformer: document 02, M-110.
 
-use super::book::{self, header_text, Book};
+use super::book::{self, header_text, Book, MOST_LOADS};
 use super::plan::ENUMERATED;
 use super::{fitting, quick, ratio, refuse_if, Case, Outcome, Refusal};
 use crate::Answer;
 
-/// The most loads of a book, and the largest limit.
-pub const MOST_LOADS: usize = 24;
+/// The largest limit.
 pub const MOST_LIMIT: i64 = 65_535;
 
-/// A book to be pooled after document 01's: d is 4 there too, and all else in the header is another.
+/// A book to be pooled after document 01's: T and d are as there, and all else in the header is another.
 pub const SECOND: &[u8] = b"08010104030000000A0014\n06010001FFFF000700020006\n";
 
 /// The two pooled.
@@ -59,13 +58,16 @@ pub fn by(rules: &[Rule], first: &Case, second: &[u8], buffer: usize) -> Result<
 /// Both books: "Faults are tried through the first book, then the second, whose lines count on from the first's last".
 pub fn both<'a>(first: &'a Case, second: &[u8]) -> Result<(&'a Book, Book), Refusal> {
     let one = first.read()?;
-    // Its header and its load lines.
-    let above = 1 + one.loads.len() as u64;
     let counted_on = |refusal: Refusal| Refusal {
-        line: above + refusal.line,
+        line: lines(one) + refusal.line,
         ..refusal
     };
     Ok((one, book::read(second).map_err(counted_on)?))
+}
+
+/// The number of a book's lines: its header and its load lines.
+pub fn lines(book: &Book) -> u64 {
+    1 + book.loads.len() as u64
 }
 
 /// "each slot's limit the sum of the two, the larger budget, the larger r, header kind `08`".

@@ -8,8 +8,8 @@ use crate::draw::{self, text};
 use crate::kinds::pool::{beside, need_of};
 use crate::kinds::SMALL;
 use crate::random::Random;
-use crate::reference::book::{self, Book};
-use crate::reference::pool::{self, Rule, LIMIT, LOADS, MOST_LIMIT, MOST_LOADS, POOLED, SECOND, UNLIKE};
+use crate::reference::book::{self, Book, MOST_LOADS};
+use crate::reference::pool::{self, Rule, LIMIT, LOADS, MOST_LIMIT, POOLED, SECOND, UNLIKE};
 use crate::reference::{fitting, ratio, refused, Case, Outcome, Refusal, EXAMPLE};
 use crate::Answer;
 use std::ops::Range;
@@ -402,7 +402,7 @@ pub const ORDER_MISTAKES: &[Mistake] = &[
     }),
     ("the first book's 8 comes after the second's", POOL, |case, input| {
         let trailing = case.book.as_ref().is_err_and(|refusal| refusal.number == 8);
-        match pool::both(&without_last_bytes(case), input.second) {
+        match pool::both(&before_refused(case), input.second) {
             Err(refusal) if trailing => refused::<0>(refusal),
             _ => case.outcome(input),
         }
@@ -410,7 +410,7 @@ pub const ORDER_MISTAKES: &[Mistake] = &[
 ];
 
 /// The case of the lines before the one at which the book is refused.
-fn without_last_bytes(case: &Case) -> Case {
+fn before_refused(case: &Case) -> Case {
     let refused = case.book.as_ref().map_or_else(|refusal| refusal.line, |_| 1);
     let lines = case.text.split_inclusive(|&byte| byte == b'\n');
     let kept: Vec<&[u8]> = lines.take(refused as usize - 1).collect();
@@ -423,7 +423,7 @@ fn loads(first: &Book, second: &Book) -> usize {
 
 /// The lines of the first book, where it was read.
 fn above(case: &Case) -> u64 {
-    case.book.as_ref().map_or(0, |book| 1 + book.loads.len() as u64)
+    case.book.as_ref().map_or(0, pool::lines)
 }
 
 /// What the pool has to leave where 21 to 23 are given by these rules.

@@ -12,7 +12,8 @@ use Rattle.model.specs.Refusals.{first}
 use Rattle.model.specs.Book.{headerRules}
 use Rattle.model.specs.Values.{freshBook, readingOf}
 use Rattle.book.specs.Lines.{restRead}
-use Rattle.book.proofs.LoadsLaws.{book-unterminated, header-refused, header-passed, rest-is}
+use Rattle.hex.proofs.FieldLaws.{rest-is}
+use Rattle.book.proofs.LoadsLaws.{book-unterminated, header-refused, header-passed}
 use native.Mathlib.Omega.{arith}
 use borrow.Author.Needs.{needs}
 use Rattle.book.proofs.read_book.Statement.{statement}

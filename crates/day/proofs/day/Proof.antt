@@ -63,10 +63,10 @@ waits : (c : tie.After-waiting2) → c .before .before .before .write-books .res
 waits c = let w = c .before .before .before .write-books in written-within _ (w .last .1 .1 .0) _ (w .result) (w .ensures .0) (w .ensures .1 .0)
 
 array-share-prefix-waiting : tie.Need-array-share-prefix-waiting
-array-share-prefix-waiting c = waits (c .before)
+array-share-prefix-waiting c = waits (c .before .before)
 
 slice-aggregate-copy : tie.Need-slice-aggregate-copy
-slice-aggregate-copy c = let w = c .before .before .before .before .before .write-books in sym (length-take-le (w .result) (w .last .1 .1 .0) (waits (c .before .before)))
+slice-aggregate-copy c = let w = c .before .before .before .before .before .before .write-books in sym (length-take-le (w .result) (w .last .1 .1 .0) (waits (c .before .before .before)))
 
 copy-requires : tie.Need-copy-requires
 copy-requires c κs =

@@ -14,7 +14,7 @@ use Rattle.model.specs.Bounds.{mostLoads, mostFineness, mostRatio}
 use Rattle.model.proofs.FrameLaws.{field-below}
 use Rattle.model.proofs.RefusalLaws.{first-here, first-next, first-last}
 use Rattle.model.proofs.LengthLaws.{ratio-few}
-use Rattle.header.proofs.HeaderLaws.{first-out, second-out, none-out}
+use Rattle.model.proofs.ListLaws.{first-out, second-out, none-out}
 use native.Mathlib.Omega.{arith}
 use borrow.Author.Needs.{needs}
 use Rattle.header.proofs.header_finding.Statement.{statement}

@@ -11,10 +11,10 @@ use Rattle.hex.proofs.copy.Statement.{statement}
 use Rattle.hex.proofs.copy.Tie as tie
 
 abbrev Inv-loop : tie.InvT-loop
-Inv-loop bytes buf₀ at i₀ buf i = (i ≤ length bytes) × (length buf ≡ length buf₀) × (buf ≡ written buf₀ at (take i bytes))
+Inv-loop buf₀ at bytes i₀ buf i = (i ≤ length bytes) × (length buf ≡ length buf₀) × (buf ≡ written buf₀ at (take i bytes))
 
 abbrev μ-loop : tie.MeasureT-loop
-μ-loop bytes buf₀ at i₀ buf i = length bytes - i
+μ-loop buf₀ at bytes i₀ buf i = length bytes - i
 
 loop-holds : tie.Need-loop-holds Inv-loop μ-loop
 loop-holds c = (search needs, search needs, sym (written-none _ _))

@@ -34,7 +34,7 @@ returns-2 : tie.Need-returns-2
 unfolding pairRules
 returns-2 c =
     let s = c .before .before .before .before .before .before in
-    sym (first-here SlotsOrFinenessDiffer _ _ (fineness-differs (s .args .a) (s .args .b) (s .pre .0) (s .pre .1) (c .if2 .taken)))
+    sym (first-here SlotsOrFinenessDiffer _ _ (fineness-differs (s .args .a) (s .args .b) (s .pre .0) (s .pre .1) (c .before .before .before .if1 .left) (c .if2 .taken)))
 
 alike : (c : tie.Else2) → let s = c .before .before .before .before .before .before in Left (s .args .a) (s .args .b) 1
 unfolding pairRules

@@ -9,7 +9,7 @@ use Rattle.model.specs.Refusals.{done}
 use Rattle.model.specs.Answers.{inRoom}
 use Rattle.model.specs.Pool.{Mills, poolable, pooledWith}
 use Rattle.model.proofs.AnswerLaws.{writes-same}
-use Rattle.model.proofs.PoolLaws.{always-room}
+use Rattle.model.proofs.PoolLaws.{pooled-few}
 use Rattle.pool.specs.Mills.{millsOf}
 use Rattle.pool.proofs.ResultLaws.{part-is, both-poolable, lines-there, both-refused, pooled-result}
 use borrow.Author.Needs.{needs}
@@ -49,14 +49,14 @@ there c = let a = c .before .before .before .before .before .before .args in lin
 line-length-requires : tie.Need-line-length-requires
 line-length-requires c κs = search needs
 
-add-own : tie.Need-add-own
-add-own c = omega (arith, c .line-length .ensures, there (c .before) .0)
+add-lines : tie.Need-add-lines
+add-lines c = omega (arith, c .line-length .ensures, there (c .before) .0)
 
 line-length-requires-2 : tie.Need-line-length-requires-2
 line-length-requires-2 c κs = search needs
 
-add-other : tie.Need-add-other
-add-other c = omega (arith, c .line-length2 .ensures, there (c .before .before) .1)
+add-others : tie.Need-add-others
+add-others c = omega (arith, c .line-length2 .ensures, there (c .before .before) .1)
 
 sub-write-pooled : tie.Need-sub-write-pooled
 sub-write-pooled c = omega (arith, c .before .line-length .ensures, there (c .before .before) .0)
@@ -93,7 +93,7 @@ write-pooled-requires c κs =
     let a = s .args in
     let m : Mills = millsOf (a .a) (a .b) in
     let parts = lines (c .before .before .before) in
-    let long : length (pooledWith m (afterLine (a .first .now)) (afterLine (a .second .now))) ≤ mostBook = always-room (a .first .now) (a .second .now) m (can (c .before .before .before .before .before)) in
+    let long : length (pooledWith m (afterLine (a .first .now)) (afterLine (a .second .now))) ≤ mostBook = pooled-few (a .first .now) (a .second .now) m (can (c .before .before .before .before .before)) in
     (s .pre .0, (s .pre .1 .0, rw (parts .0, parts .1) long))
 
 same-length : tie.Need-same-length
@@ -118,9 +118,9 @@ pool-both-spec =
     returns
     enum-told
     line-length-requires
-    add-own
+    add-lines
     line-length-requires-2
-    add-other
+    add-others
     sub-write-pooled
     part-write-pooled-start
     part-write-pooled-end

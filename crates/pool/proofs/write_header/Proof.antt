@@ -41,8 +41,8 @@ write-row-requires c κs = search needs
 write-requires : tie.Need-write-requires
 write-requires c κs = search needs
 
-array-share-prefix-limits : tie.Need-array-share-prefix-limits
-array-share-prefix-limits c = inside (c .before .before .before .before .before .before .before .before .before .before)
+array-share-prefix-sums : tie.Need-array-share-prefix-sums
+array-share-prefix-sums c = inside (c .before .before .before .before .before .before .before .before .before .before)
 
 slice-aggregate-write-row-2 : tie.Need-slice-aggregate-write-row-2
 slice-aggregate-write-row-2 c =
@@ -85,7 +85,7 @@ write-header-spec =
     slice-aggregate-write-row
     write-row-requires
     write-requires
-    array-share-prefix-limits
+    array-share-prefix-sums
     slice-aggregate-write-row-2
     write-row-requires-2
     mul-buf

@@ -26,8 +26,8 @@ add-header c =
     let s = c .before .before .before .before in
     omega (arith, fits s)
 
-add-own : tie.Need-add-own
-add-own c =
+add-second : tie.Need-add-second
+add-second c =
     let s = c .before .before .before .before in
     omega (arith, fits s)
 
@@ -80,7 +80,7 @@ write-pooled-spec =
     (tie.spec
     mul-header
     add-header
-    add-own
+    add-second
     add-bytes
     refusal-requires
     returns
