@@ -16,7 +16,7 @@ use Rattle.model.specs.Demand.{T, S, N}
 use Rattle.model.specs.Pool.{Mills, limitSums, pooled, headerLine, pooledWith}
 use Rattle.model.specs.Sheet.{lf}
 use Rattle.model.specs.Values.{Held, problemOf}
-use Rattle.model.proofs.ListLaws.{second-out, length-concat}
+use Rattle.model.proofs.ListLaws.{first-out, second-out, none-out, length-concat}
 use Rattle.model.proofs.UptoLaws.{take-upto, getD-upto, map-same}
 use Rattle.model.proofs.FrameLaws.{length-digits}
 use Rattle.model.proofs.HeaderLaws.{length-header}
@@ -58,21 +58,21 @@ module _ (a b : Book) (ha : Held a) (hb : Held b) where
 
   pub slots-differ : (a .slots ≡ b .slots → ⊥) → differ ≡ true
   slots-differ n =
-      ap (λ t. not (t && eqb (problemOf a .fineness) (problemOf b .fineness)))
-      (ne-eqb (T (problemOf a)) (T (problemOf b)) (λ e. n (held-slots a ha ∙ e ∙ sym (held-slots b hb))))
+      first-out (eqb (T (problemOf a)) (T (problemOf b))) (eqb (problemOf a .fineness) (problemOf b .fineness))
+      (ap not (ne-eqb (T (problemOf a)) (T (problemOf b)) (λ e. n (held-slots a ha ∙ e ∙ sym (held-slots b hb)))))
+
+  slots-same : a .slots ≡ b .slots → eqb (T (problemOf a)) (T (problemOf b)) ≡ true
+  slots-same e = eq-eqb (T (problemOf a)) (T (problemOf b)) (sym (held-slots a ha) ∙ e ∙ held-slots b hb)
 
   pub fineness-differs : a .slots ≡ b .slots → (a .fineness ≡ b .fineness → ⊥) → differ ≡ true
   unfolding problemOf
   fineness-differs e n =
-      second-out (eqb (T (problemOf a)) (T (problemOf b))) (eqb (a .fineness) (b .fineness)) (ap not same-slots) (ap not (ne-eqb (a .fineness) (b .fineness) n))
-    where
-      same-slots : eqb (T (problemOf a)) (T (problemOf b)) ≡ true
-      same-slots = eq-eqb (T (problemOf a)) (T (problemOf b)) (sym (held-slots a ha) ∙ e ∙ held-slots b hb)
+      second-out (eqb (T (problemOf a)) (T (problemOf b))) (eqb (a .fineness) (b .fineness)) (ap not (slots-same e)) (ap not (ne-eqb (a .fineness) (b .fineness) n))
 
   pub none-differs : a .slots ≡ b .slots → a .fineness ≡ b .fineness → differ ≡ false
   unfolding problemOf
   none-differs e f =
-      ap₂ (λ t u. not (t && u)) (eq-eqb (T (problemOf a)) (T (problemOf b)) (sym (held-slots a ha) ∙ e ∙ held-slots b hb)) (eq-eqb (a .fineness) (b .fineness) f)
+      none-out (eqb (T (problemOf a)) (T (problemOf b))) (eqb (a .fineness) (b .fineness)) (ap not (slots-same e)) (ap not (eq-eqb (a .fineness) (b .fineness) f))
 
   pub counts-are : a .count + b .count ≡ N (problemOf a) + N (problemOf b)
   counts-are = ap₂ _+_ (held-count a ha) (held-count b hb)

@@ -17,24 +17,16 @@ fits : (s : tie.Start) → 19 + 4 * s .args .a .slots + length (s .args .lines .
 fits s = omega (arith, s .pre .1 .1, length-pooled (s .args .a) (s .args .b) (s .pre .0) (s .pre .1 .0) (s .args .lines .now) (s .args .others .now))
 
 mul-header : tie.Need-mul-header
-mul-header c =
-    let s = c .before .before .before .before in
-    omega (arith, fits s)
+mul-header c = omega (arith, fits (c .before .before .before .before))
 
 add-header : tie.Need-add-header
-add-header c =
-    let s = c .before .before .before .before in
-    omega (arith, fits s)
+add-header c = omega (arith, fits (c .before .before .before .before))
 
 add-second : tie.Need-add-second
-add-second c =
-    let s = c .before .before .before .before in
-    omega (arith, fits s)
+add-second c = omega (arith, fits (c .before .before .before .before))
 
 add-bytes : tie.Need-add-bytes
-add-bytes c =
-    let s = c .before .before .before .before in
-    omega (arith, fits s)
+add-bytes c = omega (arith, fits (c .before .before .before .before))
 
 refusal-requires : tie.Need-refusal-requires
 refusal-requires c κs = search needs
