@@ -321,7 +321,7 @@ fn charge_case(name: &[u8], sheet: &[u8], prices: &[u16]) {
     print(b"\n");
 }
 
-// P = 9 at the price 20 is four hundredths and a half; then a price too many, and no price with a foreign sheet.
+// P = 9 at the price 20 is four hundredths and a half, which goes to the even four; then a price too many, and no price with a foreign sheet.
 fn charges() {
     let sheet = b"040000000A0000000E010100\n050000000900000001000A\n";
     let prices = [20u16; 2];

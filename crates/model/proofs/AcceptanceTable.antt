@@ -1,4 +1,4 @@
--- The proved table: document 01's starred cases ("Trials at the bench"), the ends of M-102's range, two overloads near M-106's bound, charges (M-100),
+-- The proved table: document 01's starred cases ("Trials at the bench"), the ends of M-102's range, two overloads near M-106's bound, charges (M-111),
 -- orders of starting (M-101), views (M-103), standing loads that draw (M-104), loads that must run (M-105), a day's books (M-107), poorer power factors
 -- (M-108), the strict planner (M-109), two mills' books pooled (M-110), and edges where a near mistake shows, as one table of facts about the definitions, with
 -- one statement covering it. Star n is the n-th star of document 01. Assumes nothing.
@@ -720,13 +720,20 @@ poolRows =
 -- of sheets: charges, orders of starting and views, the longest book last
 unfoldable pub sheetRows : List Row
 sheetRows =
-    -- M-100: under a half, a half, and halves again
+    -- M-111: under a half, 20/40, over a half, and 60/40
     roundsCharge 19 0
-    ∷ roundsCharge 20 1
+    ∷ roundsCharge 20 0
+    ∷ roundsCharge 21 1
     ∷ roundsCharge 60 2
-    ∷ roundsCharge 180 5
-    -- M-100, two slots with 20 × 1 and 4 × 5: two halves, each of which is rounded to 1; their sum, 40/40, would give 1
-    ∷ charges halvesBook halvesSheet (1 ∷ 5 ∷ []) (0 ∷ 0 ∷ 2 ∷ [])
+    -- M-111, (40k + 20) / 40 for an even k, for an odd one, and for the largest k that a sheet can have
+    ∷ roundsCharge 180 4
+    ∷ roundsCharge 220 6
+    ∷ roundsCharge 412304277580 10307606940
+    -- M-111, two slots with 20 × 1 and 4 × 5, two halves that add up to 40/40; rounded first they would give 0, or 2 upward
+    ∷ charges halvesBook halvesSheet (1 ∷ 5 ∷ []) (0 ∷ 0 ∷ 1 ∷ [])
+    -- M-111, a half and a whole, 20/40 + 40/40 and 60/40 + 40/40; rounded first they would give 1 and 3
+    ∷ charges halvesBook halvesSheet (1 ∷ 10 ∷ []) (0 ∷ 0 ∷ 2 ∷ [])
+    ∷ charges halvesBook halvesSheet (3 ∷ 10 ∷ []) (0 ∷ 0 ∷ 2 ∷ [])
     -- M-100: a price too few, and one too many
     ∷ charges halvesBook halvesSheet (1 ∷ []) (14 ∷ 0 ∷ 0 ∷ [])
     ∷ charges halvesBook halvesSheet (1 ∷ 5 ∷ 5 ∷ []) (14 ∷ 0 ∷ 0 ∷ [])

@@ -67,9 +67,10 @@ programBytes = 4096
 abbrev pub programWords : ℕ
 programWords = 6144
 
--- the largest charge of a slot (document 02, M-100), all loads at P = 65,535 and the price 65,535; and of a sheet
-abbrev pub mostSlotCharge : ℕ
-mostSlotCharge = mostLoads * 65535 * 65535 / 40
+-- the largest exact charge of a slot (document 02, M-100), in 40ths of a hundredth: all loads at P = 65,535 and the price 65,535
+abbrev pub mostExactCharge : ℕ
+mostExactCharge = mostLoads * 65535 * 65535
 
+-- and the largest charge, of four such slots: 40 divides their sum, so that nothing is rounded
 abbrev pub mostCharge : ℕ
-mostCharge = mostSlots * mostSlotCharge
+mostCharge = mostSlots * mostExactCharge / 40

@@ -1,7 +1,7 @@
 -- What the product means: document 01, section by section; Refusals stands before Book, which uses it. Demand is the buyer's demand 3. Lists, Bounds,
 -- Valid, Values, Index and Cells are no section of it: functions on lists, the bounds by name, what is known of a book that was read, what the values
 -- of the declared types hold, and the table that the search fills.
--- Of document 02: Rounding (M-102), a field of Demand3 (M-106), Charge (M-100), Order (M-101), Views (M-103) and Day (M-107); M-104 changes sentences of
+-- Of document 02: Rounding (M-102), a field of Demand3 (M-106), Charge (M-100 and M-111), Order (M-101), Views (M-103) and Day (M-107); M-104 changes sentences of
 -- Book, Calls and Quick, and Answered in Demand is of it; M-105 changes sentences of Book and Quick, and by that what Trials, Calls, SheetReader and
 -- Demand say, and MustRun says what it means for choices; M-108 changes sentences of Book and Trials, and Ratio says what it means for cells and plans; Strict is
 -- M-109, and Pool M-110.
