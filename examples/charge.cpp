@@ -2,8 +2,8 @@
 //
 //     charge BOOK SHEET [PRICE..]
 //
-// A PRICE for each slot, in hundredths of a unit of money per kWh, from 0 to 65535. Prints what each slot costs exactly, and
-// the charge. Exit status: 0 a charge, 1 a refusal, 2 an error of this program.
+// A PRICE for each slot, in hundredths of a unit of money per kWh, from 0 to 65535. Prints what each slot costs exactly, the
+// sum, and the charge. Exit status: 0 a charge, 1 a refusal, 2 an error of this program.
 #include <cstddef>
 #include <cstdint>
 #include <cstdio>
@@ -43,8 +43,13 @@ int charge(const std::string &book, const std::string &sheet, const std::vector<
         return 1;
     }
     std::puts("slot       kW       kWh    price            exact");
-    for (std::size_t s = 0; s < prices.size(); s++)
-        print_slot(s + 1, slot_on(sheet, field(book, 4, 2), s).active, prices[s]);
+    std::uint64_t sum = 0;  // in 40ths of a hundredth
+    for (std::size_t s = 0; s < prices.size(); s++) {
+        const std::uint64_t active = slot_on(sheet, field(book, 4, 2), s).active;
+        print_slot(s + 1, active, prices[s]);
+        sum += active * prices[s];
+    }
+    std::printf(" sum %44s\n", decimal(25 * sum, 5).c_str());
     std::printf("charge %s\n", decimal(answer.charge, 2).c_str());
     return 0;
 }

@@ -315,8 +315,9 @@ jadeshuttle_reading jadeshuttle_read_sheet(const uint8_t *book, size_t book_len,
  * The charge for the plan on a sheet. `prices` has one price for each slot, in
  * hundredths of a unit of money per kWh. A slot is a quarter hour, and P is in
  * tenths of a kW: with P its sum on the sheet, a slot costs P * price / 40
- * hundredths, rounded to the nearest hundredth, exact halves upward. The charge is
- * the sum over the slots. What loads draw while they stand is in P, so it is charged
+ * hundredths, exactly. The charge is the sum over the slots, rounded once, to the
+ * nearest hundredth; an exact half goes to the even hundredth, so 20 / 40 gives 0
+ * and 60 / 40 gives 2. What loads draw while they stand is in P, so it is charged
  * too. The sheet has to belong to the book, as for the sheet reader. Gives 1 to 8
  * for the book, 13, and then 14.
  */

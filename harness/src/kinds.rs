@@ -46,7 +46,8 @@ pub const KINDS: &[Kind] = &[
     kind("sheets, cut or longer", 90, cut_sheets),
     kind("sheets of other books", 45, foreign_sheets),
     kind("sheets, level above o", 43, levels_above),
-    kind("charges", 140, charges),
+    kind("charges", 80, charges),
+    kind("charges, exact halves", 60, exact_halves),
     kind("numbers of prices", 80, price_counts),
     kind("orders", 140, orders),
     kind("orders, buffers", 80, order_buffers),
@@ -570,6 +571,18 @@ fn charges(session: &mut Session) {
     for _ in 0..5 {
         let sheet = random_sheet(&mut session.random, book);
         let prices = prices(&mut session.random, book.limits.len());
+        session.charge(&case, &sheet, &prices);
+    }
+}
+
+/// Charges at odd multiples of 20, at which an odd sum of P over all slots gives an exact half.
+fn exact_halves(session: &mut Session) {
+    let case = drawn(session, MANY);
+    let Ok(book) = &case.book else { return };
+    for _ in 0..5 {
+        let sheet = random_sheet(&mut session.random, book);
+        let odd = |_: &_| 2 * session.random.below(1_638) as u16 + 1;
+        let prices: Vec<u16> = book.limits.iter().map(odd).map(|odd| 20 * odd).collect();
         session.charge(&case, &sheet, &prices);
     }
 }

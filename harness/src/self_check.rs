@@ -2,6 +2,7 @@
 //! mistake each, which must be reported; what is as it was must not be. Each call and run, altered or not, and each
 //! reference in each of its calls, is one check.
 
+mod charge;
 mod days;
 mod pool;
 mod ratios;
@@ -372,7 +373,10 @@ fn check_session(checks: &mut Checks, name: &str, alter: fn(&mut Call)) {
 
 /// Books, and the mistakes that calls on them have to show.
 const GROUPS: &[(Books, &[&[Mistake]])] = &[
-    (RIGHT, &[STANDING_MISTAKES, MUST_RUN_MISTAKES]),
+    (
+        RIGHT,
+        &[STANDING_MISTAKES, MUST_RUN_MISTAKES, charge::ROUNDING_MISTAKES],
+    ),
     (SLACK, &[READING_MISTAKES]),
     (ratios::STATED, &[ratios::CELL_MISTAKES, ratios::CANCEL_MISTAKES]),
     (ratios::OVERSIZE, &[ratios::OVERSIZE_MISTAKES]),
@@ -410,6 +414,7 @@ const EVERY: &[Function] = &[
 
 const PLANNERS: &[Function] = EVERY.split_at(3).0;
 const READERS: &[Function] = EVERY.split_at(3).1.split_at(5).0;
+const CHARGE: &[Function] = &[Function::Charge];
 const DAY: &[Function] = &[Function::Day];
 const POOL: &[Function] = &[Function::Pool];
 const PLAN: &[Function] = &[Function::Plan];
@@ -587,7 +592,8 @@ fn differs(random: &mut Random, case: &Case, function: Function, reference: fn(&
         .book
         .as_ref()
         .map_or((0, 0), |book| (book.limits.len(), book.loads.len()));
-    let (prices, names) = (vec![40; slots], vec![0; loads]);
+    // Prices at which a hundredth is a tenth of a kW, and at which an odd sum of P gives an exact half.
+    let (prices, names) = ([40, 20].map(|price| vec![price; slots]), vec![0; loads]);
     let seconds = match function {
         Function::Pool => pool::seconds(random, case),
         _ => Vec::new(),
@@ -597,7 +603,10 @@ fn differs(random: &mut Random, case: &Case, function: Function, reference: fn(&
         Function::PlanStrict => lent.map(|(words, sheet)| Input::plan_strict(text, words, sheet)).into(),
         Function::Quick => vec![Input::quick(text, free), Input::quick(text, short)],
         Function::ReadSheet => vec![Input::read_sheet(text, &planned)],
-        Function::Charge => vec![Input::charge(text, &planned, &prices)],
+        Function::Charge => prices
+            .each_ref()
+            .map(|prices| Input::charge(text, &planned, prices))
+            .into(),
         Function::Order => vec![Input::order(text, &running, &planned, &names, free)],
         Function::MillView => vec![Input::mill_view(text, &planned, free)],
         Function::SupplyView => vec![Input::supply_view(text, &planned, free)],
