@@ -175,7 +175,7 @@ fn random_sheet(random: &mut Random, book: &Book) -> Vec<u8> {
     sheet::write(book, &choice, trials)
 }
 
-/// A price: often one at which an odd sum of P gives an exact half.
+/// A price: often one at which an odd P of the slot costs an exact half.
 fn price(random: &mut Random) -> u16 {
     let any = random.word() as u16;
     random.pick(&[0, 1, 2, 20, 20, 60, 100, any, any, u16::MAX])
@@ -581,8 +581,8 @@ fn exact_halves(session: &mut Session) {
     let Ok(book) = &case.book else { return };
     for _ in 0..5 {
         let sheet = random_sheet(&mut session.random, book);
-        let odd = |_: &_| 2 * session.random.below(1_638) as u16 + 1;
-        let prices: Vec<u16> = book.limits.iter().map(odd).map(|odd| 20 * odd).collect();
+        let price = |_: &_| 20 * (2 * session.random.below(1_638) as u16 + 1);
+        let prices: Vec<u16> = book.limits.iter().map(price).collect();
         session.charge(&case, &sheet, &prices);
     }
 }

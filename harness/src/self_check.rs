@@ -592,8 +592,8 @@ fn differs(random: &mut Random, case: &Case, function: Function, reference: fn(&
         .book
         .as_ref()
         .map_or((0, 0), |book| (book.limits.len(), book.loads.len()));
-    // Prices at which a hundredth is a tenth of a kW, and at which an odd sum of P gives an exact half.
-    let (prices, names) = ([40, 20].map(|price| vec![price; slots]), vec![0; loads]);
+    // Prices at which a hundredth is a tenth of a kW, at which an odd sum of P over all slots gives an exact half, and that differ.
+    let (prices, names) = ([[40; 4], [20; 4], [7, 13, 21, 33]], vec![0; loads]);
     let seconds = match function {
         Function::Pool => pool::seconds(random, case),
         _ => Vec::new(),
@@ -605,7 +605,7 @@ fn differs(random: &mut Random, case: &Case, function: Function, reference: fn(&
         Function::ReadSheet => vec![Input::read_sheet(text, &planned)],
         Function::Charge => prices
             .each_ref()
-            .map(|prices| Input::charge(text, &planned, prices))
+            .map(|prices| Input::charge(text, &planned, &prices[..slots]))
             .into(),
         Function::Order => vec![Input::order(text, &running, &planned, &names, free)],
         Function::MillView => vec![Input::mill_view(text, &planned, free)],

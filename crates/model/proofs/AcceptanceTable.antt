@@ -1,5 +1,5 @@
--- The proved table: document 01's starred cases ("Trials at the bench"), the ends of M-102's range, two overloads near M-106's bound, charges (M-111),
--- orders of starting (M-101), views (M-103), standing loads that draw (M-104), loads that must run (M-105), a day's books (M-107), poorer power factors
+-- The proved table: document 01's starred cases ("Trials at the bench"), the ends of M-102's range, two overloads near M-106's bound, charges (M-100,
+-- M-111), orders of starting (M-101), views (M-103), standing loads that draw (M-104), loads that must run (M-105), a day's books (M-107), poorer power factors
 -- (M-108), the strict planner (M-109), two mills' books pooled (M-110), and edges where a near mistake shows, as one table of facts about the definitions, with
 -- one statement covering it. Star n is the n-th star of document 01. Assumes nothing.
 use mathlib.Core.Path.{_≡_, refl, ap₂, _∙_}
@@ -725,13 +725,14 @@ sheetRows =
     ∷ roundsCharge 20 0
     ∷ roundsCharge 21 1
     ∷ roundsCharge 60 2
-    -- M-111, (40k + 20) / 40 for an even k, for an odd one, and for the largest k that a sheet can have
+    -- M-111, (40k + 20) / 40 for an even k, for an odd one, and the last half below the largest sum
     ∷ roundsCharge 180 4
     ∷ roundsCharge 220 6
     ∷ roundsCharge 412304277580 10307606940
     -- M-111, two slots with 20 × 1 and 4 × 5, two halves that add up to 40/40; rounded first they would give 0, or 2 upward
     ∷ charges halvesBook halvesSheet (1 ∷ 5 ∷ []) (0 ∷ 0 ∷ 1 ∷ [])
-    -- M-111, a half and a whole, 20/40 + 40/40 and 60/40 + 40/40; rounded first they would give 1 and 3
+    -- M-111, a half and nothing, 20/40, which stays 0; then with a whole, 20/40 + 40/40 and 60/40 + 40/40, which rounded first would give 1 and 3
+    ∷ charges halvesBook halvesSheet (1 ∷ 0 ∷ []) (0 ∷ 0 ∷ 0 ∷ [])
     ∷ charges halvesBook halvesSheet (1 ∷ 10 ∷ []) (0 ∷ 0 ∷ 2 ∷ [])
     ∷ charges halvesBook halvesSheet (3 ∷ 10 ∷ []) (0 ∷ 0 ∷ 2 ∷ [])
     -- M-100: a price too few, and one too many

@@ -71,6 +71,6 @@ programWords = 6144
 abbrev pub mostExactCharge : ℕ
 mostExactCharge = mostLoads * 65535 * 65535
 
--- and the largest charge, of four such slots: 40 divides their sum, so that nothing is rounded
+-- and the largest charge, of four such slots added (M-111): 40 divides their sum, so that nothing is rounded
 abbrev pub mostCharge : ℕ
 mostCharge = mostSlots * mostExactCharge / 40
