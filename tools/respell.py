@@ -68,6 +68,9 @@ def main():
     for n in everything:
         if n not in table and re.match(r"[a-z]+[A-Z]", n) and "-" not in n and not HEX.match(n):
             table[n] = snake(n)
+    for n in fields(texts):
+        new = n.replace("-", "_")
+        table[n] = table["." + n] = new + "_lem" if new in {snake(w) for w in names if "-" not in w} else new
     report(table, everything)
     if "--check" in sys.argv:
         return
@@ -103,9 +106,30 @@ def heads(texts):
     return found
 
 
+def fields(texts):
+    """The fields of records that have a dash."""
+    found = set()
+    for t in texts.values():
+        inside = None
+        for line in code(t).split("\n"):
+            depth = len(line) - len(line.lstrip())
+            if re.match(r" *(?:pub )?record ", line):
+                inside = depth
+            elif inside is not None and line.strip():
+                m = re.match(r" +(?:pub )?([a-z][\w₀-₉'-]*(?: [a-z][\w₀-₉'-]*)*) *: ", line)
+                if depth <= inside:
+                    inside = None
+                elif m:
+                    found.update(n for n in m[1].split() if "-" in n)
+    return found
+
+
 def turn(text, table):
-    """Each word of the table; a word with a dash not right after a dot, where it is a step of a proof."""
+    """Each word of the table; right after a dot only a field, as other words there are steps of a proof."""
     def one(m):
+        dotted = text[m.start() - 1 : m.start()] == "."
+        if dotted and "." + m[0] in table:
+            return table["." + m[0]]
         if m[0] in table and (re.match(r"[a-z]+[A-Z]", m[0]) or text[m.start() - 1 : m.start()] != "."):
             return table[m[0]]
         return m[0]

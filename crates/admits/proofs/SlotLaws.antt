@@ -58,10 +58,10 @@ module _ {a raised depth step count limit : ℕ} (f : PairFits a raised depth st
 -- R × L, and r × (R + N) × L
 lengths_small : (s : Slot) {t : ℕ} → SlotSound t s → (grid_top s * s.step ≤ 65535) × (depth_of s * s.step ≤ most_ratio * ((most_loads + 1) * 65535))
 lengths_small s h =
-    let top : grid_top s * s.step ≤ 65535 = omega (arith, div-add-mod' s.limit s.step, h.limit-small) in
-    let loads : s.loads * s.step ≤ most_loads * 65535 = mul-le-mul h.loads-few h.step_small in
+    let top : grid_top s * s.step ≤ 65535 = omega (arith, div-add-mod' s.limit s.step, h.limit_small) in
+    let loads : s.loads * s.step ≤ most_loads * 65535 = mul-le-mul h.loads_few h.step_small in
     let both : grid_top s * s.step + s.loads * s.step ≤ (most_loads + 1) * 65535 = omega arith in
-    (top, omega (arith, mul-le-mul h.ratio-few both, mul_assoc s.ratio (grid_top s) s.step, mul_assoc s.ratio s.loads s.step))
+    (top, omega (arith, mul-le-mul h.ratio_few both, mul_assoc s.ratio (grid_top s) s.step, mul_assoc s.ratio s.loads s.step))
 
 module _ (s : Slot) {t : ℕ} (h : SlotSound t s) (a b : ℕ) where
   pair_fits : PairFits (a % (grid_top s + 1)) (b % width_of s) (depth_of s) s.step s.loads s.limit
@@ -71,15 +71,15 @@ module _ (s : Slot) {t : ℕ} (h : SlotSound t s) (a b : ℕ) where
       let one : 0 < R + 1 = omega arith in
       let wide : 0 < width_of s = omega arith in
       let below : a % (R + 1) ≤ R = omega (arith, mod-lt a one) in
-      let across : b % width_of s + depth_of s ≤ 3 * depth_of s = omega (arith, mod-lt b wide, width_is s h.ratio-some) in
+      let across : b % width_of s + depth_of s ≤ 3 * depth_of s = omega (arith, mod-lt b wide, width_is s h.ratio_some) in
       let small = lengths_small s h in
       record {
         active = omega (arith, mul-le-mul_right L below, small);
         reactive = omega (arith, mul-le-mul_right L across, small);
-        some-step = h.step-some;
+        some_step = h.step_some;
         step_fits = h.step_small;
-        count_fits = h.loads-few;
-        limit-fits = h.limit-small;
+        count_fits = h.loads_few;
+        limit_fits = h.limit_small;
       }
 
 -- ---- the slots from t on
@@ -99,7 +99,7 @@ module _ {v : Grid} {count : ℕ} {limits : List ℕ} (h : SlotsHeld v count lim
 
   module _ (t : ℕ) (l : t < v.slots) where
     long : t < length h.laid.slots
-    long = omega (arith, h.laid.is.slots-are)
+    long = omega (arith, h.laid.is.slots_are)
 
     abbrev here : Slot
     here = get_or h.laid.slots t no_slot
@@ -108,25 +108,25 @@ module _ {v : Grid} {count : ℕ} {limits : List ℕ} (h : SlotsHeld v count lim
     numbers = h.laid.is.each t long
 
     pub top-some : 0 < get_or v.tops t 0
-    top-some = omega (arith, numbers.top-is)
+    top-some = omega (arith, numbers.top_is)
 
     pub width_some : 0 < get_or v.widths t 0
     width_some = omega (arith, numbers.width_is)
 
     pub pair_held : (a b : ℕ) → PairFits (a % get_or v.tops t 0) (b % get_or v.widths t 0) (get_or v.depths t 0) (get_or v.steps t 0) count (get_or limits t 0)
     pair_held a b =
-        rw (numbers.step_is, numbers.top-is, numbers.width_is, numbers.depth_is, h.limits-are t long, ← (h.loads-are t long))
+        rw (numbers.step_is, numbers.top_is, numbers.width_is, numbers.depth_is, h.limits_are t long, ← (h.loads_are t long))
         (pair_fits here (h.laid.sound t long) a b)
 
     -- the test of the code is that of the slot
     pair_is : (a b : ℕ) → test_at v count limits t a b ≡ admits here (pair_at here (a % (grid_top here + 1)) (b % width_of here))
     pair_is a b =
-        rw (numbers.step_is, numbers.top-is, numbers.width_is, numbers.depth_is, h.limits-are t long, ← (h.loads-are t long))
+        rw (numbers.step_is, numbers.top_is, numbers.width_is, numbers.depth_is, h.limits_are t long, ← (h.loads_are t long))
 
     -- slot t, and then the slots after it
     from_cons : (a b : ℕ) → admits_from t a b
         ≡ admits here (pair_at here (a % (grid_top here + 1)) (b % width_of here)) && admits_from (t + 1) (a / get_or v.tops t 0) (b / get_or v.widths t 0)
-    from_cons a b = rw (drop-cons h.laid.slots t no_slot long, add-one t, numbers.top-is, numbers.width_is)
+    from_cons a b = rw (drop-cons h.laid.slots t no_slot long, add-one t, numbers.top_is, numbers.width_is)
 
     module _ {r : Bool} (a b : ℕ) (e : r ≡ test_at v count limits t a b) where
       pub from_stop : r ≡ false → false ≡ admits_from t a b
@@ -136,7 +136,7 @@ module _ {v : Grid} {count : ℕ} {limits : List ℕ} (h : SlotsHeld v count lim
       from_go z = from_cons a b ∙ ap (λ t'. t' && admits_from (t + 1) (a / get_or v.tops t 0) (b / get_or v.widths t 0)) (sym (pair_is a b) ∙ sym e ∙ z)
 
   pub from_end : (t a b : ℕ) → v.slots ≤ t → t ≤ v.slots → true ≡ admits_from t a b
-  from_end t a b k l = let e : t ≡ length h.laid.slots = omega (arith, h.laid.is.slots-are) in rw (e, drop-length)
+  from_end t a b k l = let e : t ≡ length h.laid.slots = omega (arith, h.laid.is.slots_are) in rw (e, drop-length)
 
 -- ---- the slots of a book, with its number of loads and its limits
 

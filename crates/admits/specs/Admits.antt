@@ -12,10 +12,10 @@ most_reach = 3 * most_ratio * (most_loads + 1) * 65535
 pub record PairFits (a raised depth step count limit : ℕ) : Type 0 where
   pub active : a * step ≤ 65535
   pub reactive : (raised + depth) * step ≤ most_reach
-  pub some-step : 0 < step
+  pub some_step : 0 < step
   pub step_fits : step ≤ 65535
   pub count_fits : count ≤ most_loads
-  pub limit-fits : limit ≤ 65535
+  pub limit_fits : limit ≤ 65535
 
 -- the slots of a grid, for `count` loads, with these limits
 pub record SlotsHeld (grid : Grid) (count : ℕ) (limits : List ℕ) : Type 0 where

@@ -4,7 +4,7 @@ use fields::put_book;
 use plain::{both, count, lesser, minus, over, plus, rest, times};
 
 // What the enumeration found for a book: the plan's answer, the needed words, and how many choices are its equals in worth.
-#[derive(Drop)]
+#[derive(Clone, Copy)]
 struct Found {
     done: Wanted,
     need: u64,

@@ -1,4 +1,5 @@
 // The book reader: the book in a slice of bytes, or the first of refusals 1 to 8 with its line.
+#![tactic(auto)]
 ghost use Rattle.std.specs.Prelude.{◌≡◌, ◌≤◌};
 ghost use Rattle.model.specs.declared.Finding.TheVariants.{Passed};
 ghost use Rattle.model.specs.Refusals.{first, refused};
@@ -10,7 +11,7 @@ ghost use Rattle.book.specs.Lines.{loads_reading, rest_read};
 use model::{Answer, Book, Finding, Load, Reading, Refusal};
 
 // What reading the load lines gives; the loads are fresh ones where the answer is a refusal.
-#[derive(Drop)]
+#[derive(Clone, Copy)]
 pub struct LoadsReading {
     pub answer: Answer,
     pub loads: [Load; Book::LOADS],

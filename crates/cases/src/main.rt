@@ -1,5 +1,6 @@
 // Runs the planner, the strict planner, the quick planner, the sheet reader, the charge, the order of starting, the views, the day and pooling on fixed
 // books and sheets, and prints each answer. Every refusal is reached: 1 to 8 with its line, and 9 to 23. The stored output is what documents 01 and 02 say.
+#![tactic(auto)]
 use libc::STDOUT_FILENO;
 use model::Answer;
 

@@ -1,4 +1,5 @@
 // The choice on a sheet: a sheet is read against a book, to the choice and the trials of one that belongs to it.
+#![tactic(auto)]
 ghost use Rattle.std.specs.Prelude.{◌≡◌, false, length};
 ghost use Rattle.model.specs.Sheet.{sheet_bytes, sheet_length};
 ghost use Rattle.model.specs.Values.{Held, Picked, choice_of, problem_of};
@@ -7,14 +8,14 @@ ghost use Rattle.chosen.specs.Chosen.{PicksOn, Belongs, ChoiceOn};
 use model::Book;
 
 // What the first line of a sheet says of the choice; `ok` is false where a number is not one of its load's.
-#[derive(Drop)]
+#[derive(Clone, Copy)]
 pub struct Picks {
     pub ok: bool,
     pub picks: [usize; Book::LOADS],
 }
 
 // What a sheet says of the choice and the trials, where it belongs to the book.
-#[derive(Drop)]
+#[derive(Clone, Copy)]
 pub struct SheetPicks {
     pub belongs: bool,
     pub picks: [usize; Book::LOADS],

@@ -1,9 +1,10 @@
 // Asks the planners and the sheet reader, and compares each answer, the sheet buffer and the work area with what is wanted.
+#![tactic(auto)]
 use model::{Answer, SheetAnswer};
 use plain::{at, both, byte_at, count, plus, put};
 
 // What a call is to answer.
-#[derive(Drop)]
+#[derive(Clone, Copy)]
 pub struct Wanted {
     pub number: u64,
     pub line: u64,
@@ -75,7 +76,7 @@ fn same_reading(a: SheetAnswer, wanted: Wanted) -> bool {
 }
 
 // How many words of the work area and bytes of the buffer the planner is lent.
-#[derive(Drop)]
+#[derive(Clone, Copy)]
 pub struct Lent {
     pub words: u64,
     pub room: u64,

@@ -1,6 +1,7 @@
 // Books with one fault or two, put in on purpose: a fault is a refusal's number of 1 to 8 and the line that it is put on. By
 // document 01's order the answer is that of the earlier line, and on one line the lower number. A function that draws gives the seed
 // after, and one that changes a line its new end: as a drawn number, where it does both.
+#![tactic(auto)]
 use fields::{put_header, put_load};
 use plain::{
     Drawn, byte_at, greater, lesser, minus, plus, put_byte, put_end, put_number, rest, roll,
@@ -9,14 +10,14 @@ use plain::{
 
 const NO_LINE: u64 = 1000;
 
-#[derive(Drop)]
+#[derive(Clone, Copy)]
 pub struct Fault {
     pub number: u64,
     pub line: u64,
 }
 
 // Two faults, the higher number first, and the seed after them; where there is one only, the other is on no line.
-#[derive(Drop)]
+#[derive(Clone, Copy)]
 pub struct Faults {
     pub high: Fault,
     pub low: Fault,
@@ -258,7 +259,7 @@ fn wrong_kind(text: &mut [u8], line: Line, seed: u64) -> Drawn {
 }
 
 // Where a line stands in the text, without its end.
-#[derive(Drop)]
+#[derive(Clone, Copy)]
 struct Line {
     start: u64,
     end: u64,

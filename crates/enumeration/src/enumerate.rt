@@ -32,7 +32,7 @@ pub fn code(book: &[u64], choice: u64) -> u64 {
 
 // What a choice comes to in one slot: its worth, the true sums, and the sums of the grid values. A reactive sum is how far it goes up
 // and how far down.
-#[derive(Drop)]
+#[derive(Clone, Copy)]
 pub struct Totals {
     pub worth: u64,
     pub active: u64,
@@ -137,7 +137,7 @@ fn admitted(book: &[u64], choice: u64) -> bool {
 }
 
 // "the admitted choice of greatest worth; among equals, the smallest code", and how many equals come after it.
-#[derive(Drop)]
+#[derive(Clone, Copy)]
 pub struct Best {
     pub choice: u64,
     pub worth: u64,

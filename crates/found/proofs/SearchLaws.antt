@@ -101,14 +101,14 @@ module _ (v : Book) (held : Held v) (grid : Grid) (is : GridIs (slots_of (proble
         ready =
             record {
               for = subst (λ n. SlotsFor b.ratio n (slots_of b)) (sym (held-count v held)) (slots-for b);
-              some-ratio = valid.ratio-some;
+              some_ratio = valid.ratio_some;
               few = omega (arith, held-count v held);
               keeps = valid.loads.keeps;
             };
         loads_are = sym (held-count v held);
         loads_fit = held-few v held;
-        some_load = omega (arith, held-count v held, valid.loads-some);
-        some_slot = omega (arith, slots_length v held, held-slots v held, valid.slots-some);
+        some_load = omega (arith, held-count v held, valid.loads_some);
+        some_slot = omega (arith, slots_length v held, held-slots v held, valid.slots_some);
         small = loads_below b.loads valid.loads.labels valid.loads.small;
         grid_is = is;
         each = loads;

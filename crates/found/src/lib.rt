@@ -1,4 +1,5 @@
 // What the search finds: the trials of a book whose table fits the work area, and the plan's code or that there is no plan.
+#![tactic(auto)]
 ghost use Rattle.std.specs.Prelude.{◌≤◌, length};
 ghost use Rattle.model.specs.Grid.{slots_of};
 ghost use Rattle.model.specs.Trials.{needed_words, WordsKept};
@@ -11,7 +12,7 @@ use model::Book;
 use scan::Test;
 
 // Whether the trials are within the budget; if so, their number, and whether there is a plan; if there is, its code.
-#[derive(Drop)]
+#[derive(Clone, Copy)]
 pub struct Search {
     pub within: bool,
     pub trials: u64,

@@ -57,7 +57,7 @@ back_one P t h p = let e : t ≡ suc (t - 1) = omega arith in subst P e p
 -- one slot sooner
 module _ (slots : List Slot) (t : ℕ) (l : t < length slots) (x : SlotGrid) (is : SlotIs (get_or slots t no_slot) x) where
   pub rows_more : row_count (drop (suc t) slots) * x.top ≡ row_count (drop t slots)
-  rows_more = ap (λ n. row_count (drop (suc t) slots) * n) is.top-is ∙ ap row_count (sym (drop-cons slots t no_slot l))
+  rows_more = ap (λ n. row_count (drop (suc t) slots) * n) is.top_is ∙ ap row_count (sym (drop-cons slots t no_slot l))
 
   pub columns_more : column_count (drop (suc t) slots) * x.width ≡ column_count (drop t slots)
   columns_more = ap (λ n. column_count (drop (suc t) slots) * n) is.width_is ∙ ap column_count (sym (drop-cons slots t no_slot l))
@@ -65,7 +65,7 @@ module _ (slots : List Slot) (t : ℕ) (l : t < length slots) (x : SlotGrid) (is
   cells-more : cell_count (drop (suc t) slots) * (x.top * x.width) ≡ cell_count (drop t slots)
   cells-more =
       mul_comm (cell_count (drop (suc t) slots)) (x.top * x.width)
-      ∙ ap (λ n. n * cell_count (drop (suc t) slots)) (ap₂ ◌*◌ is.top-is is.width_is)
+      ∙ ap (λ n. n * cell_count (drop (suc t) slots)) (ap₂ ◌*◌ is.top_is is.width_is)
       ∙ ap cell_count (sym (drop-cons slots t no_slot l))
 
   origin_more : column_index (drop (suc t) slots) (grids_of (drop (suc t) slots) []) * x.width + x.depth ≡ column_index (drop t slots) (grids_of (drop t slots) [])
@@ -130,20 +130,20 @@ module _ (slots : List Slot) (t : ℕ) (few : length slots ≤ 4) (l : t < lengt
   pub grid_more : MadeFrom slots t (grid_with v t x)
   grid_more =
       record {
-        steps_length = length-set v.steps t x.step ∙ g.steps-length;
-        tops_length = length-set v.tops t x.top ∙ g.tops-length;
-        widths_length = length-set v.widths t x.width ∙ g.widths-length;
-        depths_length = length-set v.depths t x.depth ∙ g.depths-length;
+        steps_length = length-set v.steps t x.step ∙ g.steps_length;
+        tops_length = length-set v.tops t x.top ∙ g.tops_length;
+        widths_length = length-set v.widths t x.width ∙ g.widths_length;
+        depths_length = length-set v.depths t x.depth ∙ g.depths_length;
         each = λ i h k. record {
-          step_is = entries (λ s. s.step) v.steps x.step g.steps-length is.step_is (λ j a b. (g.each j a b).step_is) i h k;
-          top-is = entries (λ s. grid_top s + 1) v.tops x.top g.tops-length is.top-is (λ j a b. (g.each j a b).top-is) i h k;
-          width_is = entries width_of v.widths x.width g.widths-length is.width_is (λ j a b. (g.each j a b).width_is) i h k;
-          depth_is = entries depth_of v.depths x.depth g.depths-length is.depth_is (λ j a b. (g.each j a b).depth_is) i h k;
+          step_is = entries (λ s. s.step) v.steps x.step g.steps_length is.step_is (λ j a b. (g.each j a b).step_is) i h k;
+          top_is = entries (λ s. grid_top s + 1) v.tops x.top g.tops_length is.top_is (λ j a b. (g.each j a b).top_is) i h k;
+          width_is = entries width_of v.widths x.width g.widths_length is.width_is (λ j a b. (g.each j a b).width_is) i h k;
+          depth_is = entries depth_of v.depths x.depth g.depths_length is.depth_is (λ j a b. (g.each j a b).depth_is) i h k;
         };
         rows_are = ap (λ n. n * x.top) g.rows_are ∙ rows_more slots t l x is;
         width_is = ap (λ n. n * x.width) g.width_is ∙ columns_more slots t l x is;
         cells_are = ap (λ n. n * (x.top * x.width)) g.cells_are ∙ cells-more slots t l x is;
-        origin_is = ap (λ n. n * x.width + x.depth) g.origin-is ∙ origin_more slots t l x is;
+        origin_is = ap (λ n. n * x.width + x.depth) g.origin_is ∙ origin_more slots t l x is;
         below = omega (arith, deep, mul-le-mul_right x.width g.below);
       }
 
@@ -183,5 +183,5 @@ grid_all slots t v none e few from fits =
       width_is = g.width_is;
       cells_are = g.cells_are;
       cells_fit = fits;
-      origin_is = g.origin-is;
+      origin_is = g.origin_is;
     }

@@ -53,10 +53,10 @@ module _ (v : Book) (h : Held v) where
   pub header_fits : (1 ≤ v.count) × (v.count ≤ most_loads) × (1 ≤ v.fineness) × (v.fineness ≤ most_fineness)
   header_fits =
       let valid = held-valid v h in
-      (omega (arith, held-count v h, valid.loads-some), held-few v h, omega (arith, fineness-is, valid.fine-some), omega (arith, fineness-is, valid.fine-few))
+      (omega (arith, held-count v h, valid.loads_some), held-few v h, omega (arith, fineness-is, valid.fine_some), omega (arith, fineness-is, valid.fine_few))
 
   pub ratio-fits : (1 ≤ v.ratio) × (v.ratio ≤ most_ratio)
-  ratio-fits = let valid = held-valid v h in (omega (arith, ratio-is, valid.ratio-some), omega (arith, ratio-is, valid.ratio-few))
+  ratio-fits = let valid = held-valid v h in (omega (arith, ratio-is, valid.ratio_some), omega (arith, ratio-is, valid.ratio_few))
 
   pub slot_at_lem : (t : ℕ) → t < v.slots → get_or (slots_of (problem_of v)) t no_slot ≡ slot_in v t
   unfolding slots_of
@@ -75,12 +75,12 @@ module _ (v : Book) (h : Held v) where
       let one : 1 ≤ 65535 = omega arith in
       subst (SlotSound t) (sym (slot_at_lem t k)) (record {
         place_is = refl;
-        step-some = le-max_left 1 (get_or v.limits t 0 / (v.count * v.fineness));
+        step_some = le-max_left 1 (get_or v.limits t 0 / (v.count * v.fineness));
         step_small = max-le one (omega (arith, small, div-le_self (get_or v.limits t 0) (v.count * v.fineness)));
-        limit-small = small;
-        loads-few = held-few v h;
-        ratio-some = ratio-fits.0;
-        ratio-few = ratio-fits.1;
+        limit_small = small;
+        loads_few = held-few v h;
+        ratio_some = ratio-fits.0;
+        ratio_few = ratio-fits.1;
       })
 
   unfoldable pub laid : (x : Grid) → GridIs (slots_of (problem_of v)) x → Laid x

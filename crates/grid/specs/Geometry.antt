@@ -13,7 +13,7 @@ use Rattle.grid.specs.declared.SlotGrid.{SlotGrid}
 -- the numbers of a slot
 pub record SlotIs (s : Slot) (x : SlotGrid) : Type 0 where
   pub step_is : x.step ≡ s.step
-  pub top-is : x.top ≡ grid_top s + 1
+  pub top_is : x.top ≡ grid_top s + 1
   pub width_is : x.width ≡ width_of s
   pub depth_is : x.depth ≡ depth_of s
 
@@ -53,12 +53,12 @@ pub record BookGrid (b : Problem) (v : Grid) : Type 0 where
 -- what is known of slot t of a book
 pub record SlotSound (t : ℕ) (s : Slot) : Type 0 where
   pub place_is : s.place ≡ t
-  pub step-some : 1 ≤ s.step
+  pub step_some : 1 ≤ s.step
   pub step_small : s.step ≤ 65535
-  pub limit-small : s.limit ≤ 65535
-  pub loads-few : s.loads ≤ most_loads
-  pub ratio-some : 1 ≤ s.ratio
-  pub ratio-few : s.ratio ≤ most_ratio
+  pub limit_small : s.limit ≤ 65535
+  pub loads_few : s.loads ≤ most_loads
+  pub ratio_some : 1 ≤ s.ratio
+  pub ratio_few : s.ratio ≤ most_ratio
 
 pub record Laid (v : Grid) : Type 0 where
   pub slots : List Slot

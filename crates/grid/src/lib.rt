@@ -1,4 +1,5 @@
 // The geometry of a book's table: the step and the sizes of each slot, and the rows, columns and cells that they come to.
+#![tactic(auto)]
 ghost use Rattle.std.specs.Prelude.{◌≡◌, ℕ, ◌≤◌};
 ghost use Rattle.model.specs.Bounds.{most_loads, most_fineness, most_ratio};
 ghost use Rattle.model.specs.Grid.{step_for, slot_at};
@@ -9,7 +10,7 @@ use model::Book;
 
 // The table's geometry: the cells, the columns of a row, the rows, and for each slot the number R + 1 of active grid values, all of which the search asks for; the
 // column of no power; and for each slot the step L, the number of reactive grid values, and how far below 0 these begin.
-#[derive(Drop)]
+#[derive(Clone, Copy)]
 pub struct Grid {
     pub cells: usize,
     pub width: usize,
@@ -28,7 +29,7 @@ impl Grid {
 }
 
 // One slot's entries in the arrays.
-#[derive(Drop)]
+#[derive(Clone, Copy)]
 pub struct SlotGrid {
     pub step: u64,
     pub top: usize,

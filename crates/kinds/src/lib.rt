@@ -1,4 +1,5 @@
 // Where each count stands in the tally, and how the tally is printed.
+#![tactic(auto)]
 use libc::STDOUT_FILENO;
 use plain::{at, plus};
 

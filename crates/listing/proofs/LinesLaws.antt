@@ -165,7 +165,7 @@ module _ (b : Problem) (valid : ValidBook b) (few : length b.loads ≤ most_list
   lines_are zero l tail x t =
       let whole : length tail ≡ length b.loads = omega (arith, t.sized) in
       ap₂ {C = List (List ℕ)} (λ u xs. keep_if u xs [])
-      (ap (λ y. kept y (length b.loads) b.limits) t.sums ∙ kept-is tail t.small b valid.slots-few whole)
+      (ap (λ y. kept y (length b.loads) b.limits) t.sums ∙ kept-is tail t.small b valid.slots_few whole)
       (ap (take (2 * length b.loads + 1)) t.line ∙ take_at (choice_line tail) t.past (2 * length b.loads + 1) (omega (arith, length-line tail)))
       ∙ sym (none_left keeps tail)
   lines_are (suc k) l tail x t =

@@ -96,8 +96,8 @@ module _ (b : Problem) where
   -- ---- nothing is too large
 
   module _ (valid : ValidBook b) where
-    powers-small : (k j : ℕ) → j < 16 → (word_of (load_value (at k)) j ≤ 65536) × (word_of (load_value (at k)) (j + 16) ≤ 65536)
-    powers-small k j h =
+    powers_small : (k j : ℕ) → j < 16 → (word_of (load_value (at k)) j ≤ 65536) × (word_of (load_value (at k)) (j + 16) ≤ 65536)
+    powers_small k j h =
         let c : ℕ = j / 4 in
         let s : ℕ = j % 4 in
         let place : 4 * c + s ≡ j = omega arith in
@@ -131,10 +131,10 @@ module _ (b : Problem) where
     words_small k j h = go (split j 16) (split j 32) (split j 33)
       where
         go : (j < 16) ⊎ (16 ≤ j) → (j < 32) ⊎ (32 ≤ j) → (j < 33) ⊎ (33 ≤ j) → word_of (load_value (at k)) j ≤ 65536
-        go (inl l) m n = (powers-small k j l).0
+        go (inl l) m n = (powers_small k j l).0
         go (inr l) (inl m) n =
             let place : j - 16 + 16 ≡ j = omega arith in
-            subst (λ i. word_of (load_value (at k)) i ≤ 65536) place (powers-small k (j - 16) (omega arith)).1
+            subst (λ i. word_of (load_value (at k)) i ≤ 65536) place (powers_small k (j - 16) (omega arith)).1
         go (inr l) (inr m) (inl n) =
             let place : 32 ≡ j = omega arith in
             subst (λ i. word_of (load_value (at k)) i ≤ 65536) place (omega (arith, word_first (load_value (at k)), value_least (at k), ends-small k))
@@ -151,6 +151,6 @@ module _ (b : Problem) where
           small = λ i l. subst (λ x. x ≤ 65536) (sym (get_d_upto (word_at b) 204 i 0 l)) (words_small (i / 34) (i % 34) (omega arith));
           few = λ k l. omega (arith, end_is k (omega arith), ends-small k);
           loads = few;
-          slots = valid.slots-few;
-          limits-small = every_at (λ s. s ≤ most_limit) b.limits 0 valid.limits-small;
+          slots = valid.slots_few;
+          limits_small = every_at (λ s. s ≤ most_limit) b.limits 0 valid.limits_small;
         }

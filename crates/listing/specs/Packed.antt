@@ -48,4 +48,4 @@ pub record Packed (words limits : List ℕ) (n : ℕ) : Type 0 where
   pub few : (k : ℕ) → k < n → end_in words k ≤ 4
   pub loads : n ≤ most_listed
   pub slots : length limits ≤ most_slots
-  pub limits-small : (s : ℕ) → s < length limits → get_or limits s 0 ≤ most_limit
+  pub limits_small : (s : ℕ) → s < length limits → get_or limits s 0 ≤ most_limit

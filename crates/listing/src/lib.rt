@@ -1,4 +1,5 @@
 // All plans of a small book: a line for each choice that keeps every limit, ascending by code, or refusals 24 and 11; the book's own refusals come first.
+#![tactic(auto)]
 ghost use Rattle.std.specs.Prelude.{◌≡◌, [], map, ℕ, ◌+◌, ◌*◌, ◌^◌, ◌≤◌, ◌<◌, length, get_or, take};
 ghost use Rattle.model.specs.Answers.{Writes, in_room};
 ghost use Rattle.model.specs.AllPlans.{keeping_choices, choice_line, list_bytes, list_result, AllListed};
@@ -19,7 +20,7 @@ const WORDS: usize = Book::LISTED * LOAD_WORDS;
 const LINE: usize = 2 * Book::LISTED + 1;
 
 // What is settled of a choice: the sums of the loads that are settled; and the line, with their numbers in their places and the LF after the last load's.
-#[derive(Drop)]
+#[derive(Clone, Copy)]
 pub struct Settled {
     pub sums: Sums,
     pub line: [u8; LINE],

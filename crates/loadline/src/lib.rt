@@ -1,4 +1,5 @@
 // A load line of a book: refusals 2 to 5 and 7, and its load.
+#![tactic(auto)]
 ghost use Rattle.std.specs.Prelude.{◌≡◌, map, ◌+◌, ◌*◌, ◌≤◌, length};
 ghost use Rattle.model.specs.Lists.{upto};
 ghost use Rattle.model.specs.Refusals.{first};
@@ -12,7 +13,7 @@ ghost use Rattle.loadline.specs.LoadLine.{LoadLine, power_value};
 use model::{Book, Finding, Load, Refusal};
 
 // An active power, and a reactive power plus 32,768.
-#[derive(Drop)]
+#[derive(Clone, Copy)]
 pub struct PowerValue {
     pub active: u64,
     pub reactive: u64,

@@ -58,7 +58,7 @@ admits_of s g h =
     (add-le-add
     (sq_mono {a = g.p * s.step} {b = g.p * s.step + h.i} (omega arith))
     (subst (λ n. square (least_abs s.step (spread_of s) g.q) ≤ n) (sym (square_abs (times g.q s.step +ℤ pos h.j)))
-    (sq_mono (nearest_le g.q s.step (spread_of s) h.j h.j-fits))))
+    (sq_mono (nearest_le g.q s.step (spread_of s) h.j h.j_fits))))
     h.inside)
 
 pub of_admits : (s : Slot) (g : Power) → T (admits s g) → Admissible s g
@@ -66,8 +66,8 @@ of_admits s g t =
     record {
       i = 0;
       j = nearest_at g.q s.step (spread_of s);
-      i-fits = omega arith;
-      j-fits = nearest-fits g.q s.step (spread_of s);
+      i_fits = omega arith;
+      j_fits = nearest-fits g.q s.step (spread_of s);
       inside =
           subst (λ n. n ≤ square s.limit)
           (ap₂ ◌+◌ (ap square (sym (add-zero (g.p * s.step))))
@@ -98,10 +98,10 @@ admitted-is slots c = (
 pub record Rounded (l k : ℕ) (x g : Power) : Type 0 where
   pub i : ℕ
   pub j : ℕ
-  pub i-fits : i ≤ k
-  pub j-fits : j ≤ k
-  pub p-is : x.p ≡ g.p * l + i
-  pub q-is : x.q ≡ times g.q l +ℤ pos j
+  pub i_fits : i ≤ k
+  pub j_fits : j ≤ k
+  pub p_is : x.p ≡ g.p * l + i
+  pub q_is : x.q ≡ times g.q l +ℤ pos j
 
 swap : (x y : ℤ) (i j : ℕ) → (x +ℤ pos i) +ℤ (y +ℤ pos j) ≡ (x +ℤ y) +ℤ pos (i + j)
 swap x y i j =
@@ -114,11 +114,11 @@ rounded-plus l k k' x g y h a b =
     record {
       i = a.i + b.i;
       j = a.j + b.j;
-      i-fits = omega (arith, a.i-fits, b.i-fits);
-      j-fits = omega (arith, a.j-fits, b.j-fits);
-      p-is = omega (arith, a.p-is, b.p-is);
-      q-is =
-          ap₂ ◌+ℤ◌ a.q-is b.q-is
+      i_fits = omega (arith, a.i_fits, b.i_fits);
+      j_fits = omega (arith, a.j_fits, b.j_fits);
+      p_is = omega (arith, a.p_is, b.p_is);
+      q_is =
+          ap₂ ◌+ℤ◌ a.q_is b.q_is
           ∙ swap (times g.q l) (times h.q l) a.j b.j
           ∙ ap (λ z. z +ℤ pos (a.j + b.j)) (sym (times-add g.q h.q l));
     }
@@ -140,15 +140,15 @@ rounded_one l h x =
     record {
       i = x.p % l;
       j = (q-rounded l h x.q).0;
-      i-fits = omega (arith, mod-lt x.p h);
-      j-fits = (q-rounded l h x.q).1;
-      p-is = sym (div-add-mod' x.p l);
-      q-is = (q-rounded l h x.q).2;
+      i_fits = omega (arith, mod-lt x.p h);
+      j_fits = (q-rounded l h x.q).1;
+      p_is = sym (div-add-mod' x.p l);
+      q_is = (q-rounded l h x.q).2;
     }
 
 -- each power is rounded first: the sums of n powers are off by at most n (L - 1)
 pub rounded-choice : (s : Slot) → 0 < s.step → (c : Choice) → Rounded s.step (length c * (s.step - 1)) (sum_in s.place c) (grid_in s c)
-rounded-choice s h [] = record { i = 0; j = 0; i-fits = omega arith; j-fits = omega arith; p-is = omega arith; q-is = ap {B = ℤ} pos (omega arith) }
+rounded-choice s h [] = record { i = 0; j = 0; i_fits = omega arith; j_fits = omega arith; p_is = omega arith; q_is = ap {B = ℤ} pos (omega arith) }
 rounded-choice s h (v ∷ c) =
     subst (λ k. Rounded s.step k (sum_in s.place (v ∷ c)) (grid_in s (v ∷ c))) (omega arith)
     (rounded-plus s.step (s.step - 1) (length c * (s.step - 1)) (power_in s.place v) (grid_of s.step (power_in s.place v)) (sum_in s.place c) (grid_in s c)
@@ -167,9 +167,9 @@ fits-admits s c h n k = admits_of s (grid_in s c) (go (rounded-choice s h c))
         record {
           i = r.i;
           j = r.j;
-          i-fits = le_trans r.i-fits spread;
-          j-fits = le_trans r.j-fits spread;
-          inside = subst (λ m. m ≤ square s.limit) (ap₂ ◌+◌ (ap square r.p-is) (ap squareℤ r.q-is)) k;
+          i_fits = le_trans r.i_fits spread;
+          j_fits = le_trans r.j_fits spread;
+          inside = subst (λ m. m ≤ square s.limit) (ap₂ ◌+◌ (ap square r.p_is) (ap squareℤ r.q_is)) k;
         }
 
 slots_from_lem : (n d r i : ℕ) (ss : List ℕ) → SlotsFor r n (slots_from n d r i ss)

@@ -79,12 +79,12 @@ to_book book starts (b ∷ bs) rest e = go (starts && eqb b 10) e (to_book (book
 pub split_joined : SplitJoined
 unfolding books_from
 split_joined [] h w = absurd (omega arith)
-split_joined (book ∷ []) h w = ap books_of (sym (append-nil book)) ∙ to_book [] true book [] w.0.no-empty-line
+split_joined (book ∷ []) h w = ap books_of (sym (append-nil book)) ∙ to_book [] true book [] w.0.no_empty_line
 split_joined (book ∷ next ∷ books) h w =
     let rest = joined (next ∷ books) in
     let t : starts_after true book ≡ true = ap (starts_after true) w.0.ends ∙ starts-after-lf true w.0.lines in
     ap books_of (append_assoc book lf rest)
-    ∙ to_book [] true book (10 ∷ rest) w.0.no-empty-line
+    ∙ to_book [] true book (10 ∷ rest) w.0.no_empty_line
     ∙ ap (λ s. books_from book s (10 ∷ rest)) t
     ∙ ap {B = List (List ℕ)} (λ xs. book ∷ xs) (split_joined (next ∷ books) (omega arith) w.1)
 

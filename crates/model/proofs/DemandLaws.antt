@@ -106,10 +106,10 @@ near s c h n t =
     record {
       p = (grid_in s c).p * s.step + a.i;
       q = nat_abs z;
-      p_near = omega (arith, r.p-is, le_trans r.i-fits w);
+      p_near = omega (arith, r.p_is, le_trans r.i_fits w);
       q_near =
-          subst (λ x. nat_abs x ≤ nat_abs z + spread_of s) (sym r.q-is)
-          (abs_near (grid_in s c).q s.step (spread_of s) r.j a.j (le_trans r.j-fits w) a.j-fits);
+          subst (λ x. nat_abs x ≤ nat_abs z + spread_of s) (sym r.q_is)
+          (abs_near (grid_in s c).q s.step (spread_of s) r.j a.j (le_trans r.j_fits w) a.j_fits);
       keeps = subst (λ m. square ((grid_in s c).p * s.step + a.i) + m ≤ square s.limit) (square_abs z) a.inside;
     }
 
@@ -142,8 +142,8 @@ module _ (n d r i s : ℕ) (c : Choice) (few : length c ≤ n) (t : Dec.T (admit
   slot_exact : s < 2 * (n * d) → apparent_squared_in i c ≤ square s
   slot_exact h =
       let z : spread_of (slot_at n d r i s) ≡ 0 = spread_zero n d r i s h in
-      let x : (sum_in i c).p ≤ here.p = omega (arith, here.p-near) in
-      let y : nat_abs (sum_in i c).q ≤ here.q = omega (arith, here.q-near) in
+      let x : (sum_in i c).p ≤ here.p = omega (arith, here.p_near) in
+      let y : nat_abs (sum_in i c).q ≤ here.q = omega (arith, here.q_near) in
       subst (λ m. m ≤ square s) (sym (as_squares i c)) (omega (arith, sq_mono x, sq_mono y, here.keeps))
 
 -- ---- the slots of a book
@@ -159,7 +159,7 @@ closer-kept b c few t slot l =
     = here (N b) b.fineness b.ratio slot (S b slot) c few (admitted_in b c t slot (omega arith)) in
     omega (
       arith,
-      Overload.closer (sum_in slot c).p (nat_abs (sum_in slot c).q) h.p h.q (spread_of (slot_in b slot)) h.p-near h.q-near
+      Overload.closer (sum_in slot c).p (nat_abs (sum_in slot c).q) h.p h.q (spread_of (slot_in b slot)) h.p_near h.q_near
           b.fineness (S b slot) (spread_small (N b) b.fineness b.ratio slot (S b slot)) (apparent_squared_in slot c) (as_squares slot c) h.keeps,
     )
 
@@ -237,7 +237,7 @@ module _ (book : List ℕ) (b : Problem) (reads : read_book book ≡ done b) (c 
       let same : b ≡ x.b = done-same b x.b (sym reads ∙ x.reads) in
       let most : worth_of c ≤ worth_of x.choice
       = x.worth c (subst (λ (y : Problem). IsChoice y.loads c) same chosen) (subst (λ (y : Problem). KeepsLimits y c) same keeps) in
-      subst (λ sheet. worth_of c ≤ field sheet 2 8) (sym w.leaves) (omega (arith, most, x.on-sheet.worth))
+      subst (λ sheet. worth_of c ≤ field sheet 2 8) (sym w.leaves) (omega (arith, most, x.on_sheet.worth))
 
   keeping_planned : answer.number ≡ 17 → ⊥
   keeping_planned h =

@@ -41,9 +41,9 @@ digit_back d h = go (split d 10)
         simp (le-ltb d 10 k, le-leb 48 (55 + d) (omega arith), lt-leb (55 + d) 57 (omega arith), le-leb 65 (55 + d) (omega arith), le-leb (55 + d) 70 (omega arith))
         (omega arith)
 
-digit-is : (d : ℕ) → d < 16 → is_digit (digit d) ≡ true
+digit_is : (d : ℕ) → d < 16 → is_digit (digit d) ≡ true
 unfolding is_digit digit
-digit-is d h = go (split d 10)
+digit_is d h = go (split d 10)
   where
     go : (d < 10) ⊎ (10 ≤ d) → is_digit (digit d) ≡ true
     go (inl k) = simp (lt-ltb d 10 k, le-leb 48 (48 + d) (omega arith), le-leb (48 + d) 57 (omega arith))
@@ -55,7 +55,7 @@ digit-is d h = go (split d 10)
 pub digits_are : (n x : ℕ) → all is_digit (digits n x) ≡ true
 unfolding digits
 digits_are zero x = refl
-digits_are (suc n) x = ap₂ ◌&&◌ (digit-is (x / 16 ^ n % 16) (mod-lt (x / 16 ^ n) (omega arith))) (digits_are n x)
+digits_are (suc n) x = ap₂ ◌&&◌ (digit_is (x / 16 ^ n % 16) (mod-lt (x / 16 ^ n) (omega arith))) (digits_are n x)
 
 -- one digit more
 pub value_last : (x : ℕ) (xs : List ℕ) (b : ℕ) → value_from x (xs ++ (b ∷ [])) ≡ value_from x xs * 16 + digit_value b

@@ -35,14 +35,14 @@ module _ (v : Book) (h : Held v) where
   held-count = ap (λ (x : Book). x.count) held-is
 
   pub held-few : v.count ≤ most_loads
-  held-few = omega (arith, held-count, held-valid.loads-few)
+  held-few = omega (arith, held-count, held-valid.loads_few)
 
   pub held-slots : v.slots ≡ length (problem_of v).limits
   unfolding book_value
   held-slots = ap (λ (x : Book). x.slots) held-is
 
   pub held_four : v.slots ≤ 4
-  held_four = omega (arith, held-slots, held-valid.slots-few)
+  held_four = omega (arith, held-slots, held-valid.slots_few)
 
   pub held-limit : (s : ℕ) → s < 4 → get_or v.limits s 0 ≡ get_or (problem_of v).limits s 0
   unfolding book_value
@@ -50,7 +50,7 @@ module _ (v : Book) (h : Held v) where
 
   pub held-limit-small : (s : ℕ) → s < 4 → get_or v.limits s 0 ≤ most_limit
   held-limit-small s l =
-      omega (arith, held-limit s l, every_get_d (λ x. x ≤ most_limit) (problem_of v).limits 0 (omega arith) held-valid.limits-small s)
+      omega (arith, held-limit s l, every_get_d (λ x. x ≤ most_limit) (problem_of v).limits 0 (omega arith) held-valid.limits_small s)
 
   pub held_load : (k : ℕ) (d : Load) → k < most_loads → get_or v.loads k d ≡ load_value (get_or (problem_of v).loads k [])
   unfolding book_value

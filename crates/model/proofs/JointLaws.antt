@@ -41,7 +41,7 @@ module _ (one two : List ℕ) (m : Mills) (e : poolable one two ≡ done m) (c d
   read = pool_read one two m e
 
   together-is : IsChoice (pooled m).loads (c ++ d)
-  together-is = choice-join m.a.loads m.b.loads c d keep.of-first keep.of-second
+  together-is = choice-join m.a.loads m.b.loads c d keep.of_first keep.of_second
 
   limit_is : (slot : ℕ) → slot < T m.a → S (pooled m) slot ≡ S m.a slot + S m.b slot
   unfolding limit_sums
@@ -53,7 +53,7 @@ module _ (one two : List ℕ) (m : Mills) (e : poolable one two ≡ done m) (c d
       let second : slot < T m.b = omega (arith, l, same-slots one two m read) in
       subst (λ (x : Power). apparent_squared x ≤ square (S (pooled m) slot)) (sym (sum-join slot c d))
       (subst (λ n. apparent_squared (plus (sum_in slot c) (sum_in slot d)) ≤ square n) (sym (limit_is slot first))
-      (within_both (sum_in slot c) (sum_in slot d) (S m.a slot) (S m.b slot) (keep.keeps-first slot first) (keep.keeps-second slot second)))
+      (within_both (sum_in slot c) (sum_in slot d) (S m.a slot) (S m.b slot) (keep.keeps_first slot first) (keep.keeps_second slot second)))
 
   -- THE SHEET IS WORTH AT LEAST BOTH TOGETHER, for every call of the planner with the pooled book, and 17 is not given
   joint_call : (words : ℕ) (before after : List ℕ) (answer : Answer) → Writes (planner_result (pooled_bytes one two m) words (length before)) before after answer
@@ -70,7 +70,7 @@ given one two m e =
     let read : PoolRead one two m = pool_read one two m e in
     record {
       mills = m;
-      reads_first = read.reads-one;
+      reads_first = read.reads_one;
       reads_second = read.reads_two;
       reads = reads_back one two m e;
       together = λ c d keep. (together-is one two m e c d keep, together-keeps one two m e c d keep);

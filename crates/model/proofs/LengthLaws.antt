@@ -22,9 +22,9 @@ use Rattle.model.proofs.RefusalLaws.{NoneApplies}
 use Rattle.model.proofs.ValidLaws.{LoadsRead, loads_read, loads-none, BookRead, book_read, HeaderRanges, header_ranges}
 
 -- no header line has more than two digits for its ratio
-pub ratio-few : (line : List ℕ) → ratio_digits line ≤ 2
+pub ratio_few : (line : List ℕ) → ratio_digits line ≤ 2
 unfolding ratio_digits
-ratio-few line = go (states_ratio line)
+ratio_few line = go (states_ratio line)
   where
     go : (t : Bool) → cond t 2 0 ≤ 2
     go true = omega arith
@@ -44,7 +44,7 @@ unfolding header_rules
 header_few line a =
     let due : ℕ = 16 + ratio_digits line + 4 * slot_count line in
     let long : length line ≡ due = eqb-true (length line) due (not-false (eqb (length line) due) a.1.1.1.0) in
-    omega (arith, long, ratio-few line, (header_ranges line a).slots.1)
+    omega (arith, long, ratio_few line, (header_ranges line a).slots.1)
 
 load_few : (t r : ℕ) (line : List ℕ) → t ≤ most_slots → NoneApplies (load_rules t r line) → length line < most_line
 unfolding load_rules option_start
@@ -55,10 +55,10 @@ load_few t r line h a =
     let each : 4 + 8 * t ≤ 4 + 8 * most_slots = omega arith in
     omega (arith, long, pairs_most t line, mul-le-mul o each)
 
-loads-few : (t r n number : ℕ) (bytes : List ℕ) (loads : List Settings) → t ≤ most_slots → read_loads t r n number bytes ≡ done loads
+loads_few : (t r n number : ℕ) (bytes : List ℕ) (loads : List Settings) → t ≤ most_slots → read_loads t r n number bytes ≡ done loads
     → length bytes ≤ n * most_line
-loads-few t r zero number bytes loads h e = omega (arith, ap length (loads-none t r number bytes loads e).0)
-loads-few t r (suc n) number bytes loads h e =
+loads_few t r zero number bytes loads h e = omega (arith, ap length (loads-none t r number bytes loads e).0)
+loads_few t r (suc n) number bytes loads h e =
     let a : LoadsRead t r n number bytes loads = loads_read t r n number bytes loads e in
     omega (
       arith,
@@ -66,7 +66,7 @@ loads-few t r (suc n) number bytes loads h e =
       load_few t r (line_of bytes) h a.rules,
       length-take-le (line_length bytes) bytes (line_le bytes),
       length-drop (suc (line_length bytes)) bytes,
-      loads-few t r n (suc number) (after_line bytes) a.others h a.rest,
+      loads_few t r n (suc number) (after_line bytes) a.others h a.rest,
     )
 
 -- NO BOOK THAT IS READ is longer than the longest
@@ -76,7 +76,7 @@ longest_book book b e =
     let read : BookRead book b = book_read book b e in
     let ranges : HeaderRanges line = header_ranges line read.rules in
     let rest : length (after_line book) ≤ load_count line * most_line
-    = loads-few (slot_count line) (ratio_in line) (load_count line) 2 (after_line book) b.loads ranges.slots.1 read.loads in
+    = loads_few (slot_count line) (ratio_in line) (load_count line) 2 (after_line book) b.loads ranges.slots.1 read.loads in
     omega (
       arith,
       read.ends,

@@ -22,7 +22,7 @@ pub ready-take : (r n : â„•) (slots : List Slot) (loads : List Settings) (k : â„
 ready-take r n slots loads k h =
     record {
       for = h.for;
-      some-ratio = h.some-ratio;
+      some_ratio = h.some_ratio;
       few = omega (arith, length-take k loads, h.few);
       keeps = every_take (Every (SettingKept r)) k loads h.keeps;
     }

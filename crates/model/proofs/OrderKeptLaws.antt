@@ -37,7 +37,7 @@ module _ (book running planned names : List ℕ) (room : ℕ) {before after : Li
       let is : order_data n old new names ≡ x = done-same (order_data n old new names) x passed.1 in
       let written : start_order n old new names ≡ take r.answer.bytes after
       = ap (λ (y : OrderData). y.order) is ∙ sym (bytes_left (done (bytes_only x.order)) w.writes) in
-      let few : n ≤ most_loads = (book-valid book b read.1).loads-few in
+      let few : n ≤ most_loads = (book-valid book b read.1).loads_few in
       record {
         b = b;
         reads = read.1;

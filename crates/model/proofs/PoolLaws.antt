@@ -122,7 +122,7 @@ pooled-loads m = length-append m.a.loads m.b.loads
 
 module _ (one two : List ℕ) (m : Mills) (read : PoolRead one two m) where
   valid_one : ValidBook m.a
-  valid_one = book-valid one m.a read.reads-one
+  valid_one = book-valid one m.a read.reads_one
 
   valid_two : ValidBook m.b
   valid_two = book-valid two m.b read.reads_two
@@ -150,11 +150,11 @@ module _ (one two : List ℕ) (m : Mills) (read : PoolRead one two m) where
       let a = valid_one in
       let b = valid_two in
       record {
-        slots = (omega (arith, pooled-slots m, a.slots-some), omega (arith, pooled-slots m, a.slots-few));
-        loads = (omega (arith, pooled-loads m, a.loads-some), omega (arith, pooled-loads m, few-loads));
-        fineness = (a.fine-some, a.fine-few);
-        ratio = (omega (arith, a.ratio-some), omega (arith, a.ratio-few, b.ratio-few));
-        budget = omega (arith, a.budget-small, b.budget-small);
+        slots = (omega (arith, pooled-slots m, a.slots_some), omega (arith, pooled-slots m, a.slots_few));
+        loads = (omega (arith, pooled-loads m, a.loads_some), omega (arith, pooled-loads m, few-loads));
+        fineness = (a.fine_some, a.fine_few);
+        ratio = (omega (arith, a.ratio_some), omega (arith, a.ratio_few, b.ratio_few));
+        budget = omega (arith, a.budget_small, b.budget_small);
         limits = small-limits;
       }
 
@@ -171,7 +171,7 @@ module _ (one two : List ℕ) (m : Mills) (read : PoolRead one two m) where
       let r₁ : m.a.ratio ≤ (pooled m).ratio = omega arith in
       let r₂ : m.b.ratio ≤ (pooled m).ratio = omega arith in
       loads-join m.a.ratio (pooled m).ratio r₁ (T (pooled m)) (N m.a) (N m.b) (after_line one) (after_line two) m.a.loads m.b.loads 2
-      (lines_read one m.a read.reads-one (sym (pooled-slots m)))
+      (lines_read one m.a read.reads_one (sym (pooled-slots m)))
       (loads_alone (T (pooled m)) m.b.ratio (pooled m).ratio (N m.b) 2 (after_line two) m.b.loads r₂
       (lines_read two m.b read.reads_two (sym same-slots ∙ sym (pooled-slots m))))
       (N (pooled m)) (pooled-loads m) 2

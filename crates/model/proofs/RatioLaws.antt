@@ -30,7 +30,7 @@ use Rattle.model.proofs.ValidLaws.{book-valid}
 use Rattle.model.proofs.TableLaws.{slots-within}
 
 pub promise_kept : PromiseKept
-promise_kept book b e = let valid = book-valid book b e in (valid.ratio-some, valid.ratio-few, valid.loads.keeps)
+promise_kept book b e = let valid = book-valid book b e in (valid.ratio_some, valid.ratio_few, valid.loads.keeps)
 
 -- EVERY PAIR OF A CHOICE HAS A CELL
 pub pairs_within : PairsWithin

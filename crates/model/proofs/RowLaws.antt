@@ -269,9 +269,9 @@ source-best r n slots loads v h few keeps row col l =
         ≡ (source_test slots v row col && has_cell slots (source_cell slots v row col) (grids_of slots c))
     at c e q =
         cell-source slots c v
-        (within_all r n h.some-ratio slots h.for c (omega arith) q)
+        (within_all r n h.some_ratio slots h.for c (omega arith) q)
         (subst (λ g. T (range_all slots g) → WithinAll slots g) (grids_last slots c v)
-        (within_all r n h.some-ratio slots h.for (snoc v c) (omega (arith, length_last c v)) (every_append (SettingKept r) c (v ∷ []) q (keeps, tt))))
+        (within_all r n h.some_ratio slots h.for (snoc v c) (omega (arith, length_last c v)) (every_append (SettingKept r) c (v ∷ []) q (keeps, tt))))
         row col l
 
 -- LOAD k + 1, BY ROWS: each cell is the best, over the load's settings, of the one cell from which the setting comes

@@ -55,7 +55,7 @@ with_plan : (b : Problem) (c : Choice) → plan b ≡ some c → SomeAdmitted b
 with_plan b c e = record { choice = c; of_book = (plan-is b c e).choice; admissible = (plan-is b c e).admissible }
 
 without_plan : (b : Problem) → plan b ≡ none → SomeAdmitted b → ⊥
-without_plan b e a = plan-none b e a.choice a.of-book a.admissible
+without_plan b e a = plan-none b e a.choice a.of_book a.admissible
 
 -- a choice that keeps the limits is admitted
 keeps-some : (b : Problem) (c : Choice) → IsChoice b.loads c → T (keeps_limits (slots_of b) c) → SomeAdmitted b
@@ -123,9 +123,9 @@ module _ (p : Problem → Option Choice) where
     number_with =
         record {
           sheet = λ b h a. number_is b h ∙ given b a (p b) refl;
-          sheet-only = λ e. let x = only (inl e) in (x.0, x.1, found x.0 (p x.0) refl (sym (number_is x.0 x.1) ∙ e));
+          sheet_only = λ e. let x = only (inl e) in (x.0, x.1, found x.0 (p x.0) refl (sym (number_is x.0 x.1) ∙ e));
           no_plan = λ b h n. number_is b h ∙ missing b n (p b) refl;
-          no_plan-only = λ e. let x = only (inr e) in (x.0, x.1, lacking x.0 (p x.0) refl (sym (number_is x.0 x.1) ∙ e));
+          no_plan_only = λ e. let x = only (inr e) in (x.0, x.1, lacking x.0 (p x.0) refl (sym (number_is x.0 x.1) ∙ e));
         }
       where
         given : (b : Problem) → SomePlan b → (m : Option Choice) → p b ≡ m → (answer_of (planned b m)).number ≡ 0
@@ -169,7 +169,7 @@ answered_as book words room a e = subst (λ (x : Answer). Answered book words ro
 pub none-keeps : (book : List ℕ) (words room : ℕ) → (answer_of (planner_result book words room)).number ≡ 17
     → (b : Problem) × (read_book book ≡ done b) × ((c : Choice) → IsChoice b.loads c → T (keeps_limits (slots_of b) c) → ⊥)
 none-keeps book words room e =
-    let x = (answered book words room).no-plan-only e in
+    let x = (answered book words room).no_plan_only e in
     (x.0, x.1.reads, λ c m k. x.2 (keeps-some x.0 c m k))
 
 -- ---- the quick planner's start: what must run at option 1, and all others standing
@@ -212,5 +212,5 @@ quick_exactly book room =
 -- WHERE THE PLANNER GIVES 17, the quick planner gives it too, with room for as many bytes
 pub quick_none : (book : List ℕ) (words room : ℕ) → (answer_of (planner_result book words room)).number ≡ 17 → (answer_of (quick_result book room)).number ≡ 17
 quick_none book words room e =
-    let x = (answered book words room).no-plan-only e in
+    let x = (answered book words room).no_plan_only e in
     (quick_exactly book room).1 (x.0, x.1.reads, x.1.long, firsts_over x.0 (book-valid book x.0 x.1.reads) x.2)

@@ -133,9 +133,9 @@ module _ (sheet : List ℕ) (b : Problem) where
     unfolding sheet_choice
     choice-accepted labels =
         ap (if_belongs sheet b)
-        (choice_back sheet 0 b.loads s.choice s.of-book labels
+        (choice_back sheet 0 b.loads s.choice s.of_book labels
         (λ j l. ap (λ i. field sheet (18 + 2 * i) 2) (zero-add j)
-        ∙ numbers_on b s.choice s.trials sheet [] plain (numbers-small b.loads s.choice labels s.of-book) no_setting j l))
+        ∙ numbers_on b s.choice s.trials sheet [] plain (numbers-small b.loads s.choice labels s.of_book) no_setting j l))
         ∙ ap (λ n. checked 0 (first (foreign_rules b sheet s.choice n)) (done s.choice)) trials_back
         ∙ ap (λ f. checked 0 f (done s.choice)) (first-none (foreign_rules b sheet s.choice s.trials) (ap not own, tt))
       where

@@ -93,10 +93,10 @@ module _ (n : ℕ) (old new : Running) (names : List ℕ) where
         go false e rest =
             let m = named names k in
             let waits = unready old names started k e in
-            let higher = name_higher n names right k a b waits.names-one in
+            let higher = name_higher n names right k a b waits.names_one in
             let begun = (both_true (starts old new k) (not (any (eqb k) started)) w).0 in
             rest m (omega (arith, higher.0)) (omega (arith, higher.1)) (omega (arith, higher.0))
-            (ap₂ (λ x y. (not (old m) && x) && not y) (named-runs k a b begun waits.names-one) (unlisted m waits.not-started (any (eqb m) started) refl)
+            (ap₂ (λ x y. (not (old m) && x) && not y) (named-runs k a b begun waits.names_one) (unlisted m waits.not_started (any (eqb m) started) refl)
             ∙ ap (λ x. (not x && true) && true) waits.stands)
           where
             unlisted : (m : ℕ) → (Mem m started → ⊥) → (t : Bool) → any (eqb m) started ≡ t → any (eqb m) started ≡ false
@@ -129,7 +129,7 @@ module _ (n : ℕ) (old new : Running) (names : List ℕ) where
   pub record Next (started : List ℕ) (k : ℕ) : Type 0 where
     pub low : 1 ≤ k
     pub high : k < 1 + n
-    pub is-left : is_left old new started k ≡ true
+    pub is_left_lem : is_left old new started k ≡ true
     pub may : ready old names started k ≡ true
     pub lower : (j : ℕ) → 1 ≤ j → j < k → is_left old new started j ≡ true → ready old names started j ≡ false
 
@@ -138,7 +138,7 @@ module _ (n : ℕ) (old new : Running) (names : List ℕ) where
   next_taken started k h =
       ap (λ xs. started ++ take 1 xs) (startable-is n old new names started)
       ∙ ap (λ xs. started ++ xs)
-      (keep-lowest (may_start n old new names started) 1 n k h.low h.high (ap₂ ◌&&◌ h.is-left h.may)
+      (keep-lowest (may_start n old new names started) 1 n k h.low h.high (ap₂ ◌&&◌ h.is_left_lem h.may)
       (λ j a b. off (is_left old new started j) (ready old names started j) (h.lower j a b)))
     where
       off : (t u : Bool) → (t ≡ true → u ≡ false) → (t && u) ≡ false
@@ -170,7 +170,7 @@ module _ (n : ℕ) (old new : Running) (names : List ℕ) where
     longer = length-append xs (k ∷ [])
 
     begun : starts old new k ≡ true
-    begun = (both_true (starts old new k) (not (any (eqb k) xs)) next.is-left).0
+    begun = (both_true (starts old new k) (not (any (eqb k) xs)) next.is_left_lem).0
 
     left_other : (j : ℕ) → (j ≡ k → ⊥) → is_left old new more j ≡ is_left old new xs j
     left_other j h = ap (λ t. starts old new j && not t) (listed_other xs j k h)
@@ -190,7 +190,7 @@ module _ (n : ℕ) (old new : Running) (names : List ℕ) where
             let same : j ≡ k = eqb-true j k e in
             let once : how_often j (k ∷ []) ≡ 1 = ap (λ t. length (keep_if t k [])) e in
             let before : how_often j (left n old new xs) ≡ 1
-            = left_often xs j ∙ ap₂ (λ t m. cond t m 0) (ap (is_left old new xs) same ∙ next.is-left)
+            = left_often xs j ∙ ap₂ (λ t m. cond t m 0) (ap (is_left old new xs) same ∙ next.is_left_lem)
             (often_upto j 1 n (omega (arith, next.low)) (omega (arith, next.high))) in
             let after : how_often j (left n old new more) ≡ 0
             = left_often more j ∙ ap (λ t. cond t (how_often j (upto_from 1 n)) 0) (ap (is_left old new more) same ∙ left_last) in
@@ -209,7 +209,7 @@ module _ (n : ℕ) (old new : Running) (names : List ℕ) where
           r.remain,
           ap length (left-keeps n old new names xs),
           ap length (left-keeps n old new names more),
-          keep_less (is_left old new xs) (is_left old new more) 1 n k next.low next.high next.is-left left_last left_other,
+          keep_less (is_left old new xs) (is_left old new more) 1 n k next.low next.high next.is_left_lem left_last left_other,
         )
 
     places-more : (j : ℕ) → j < length more → Next (take j more) (get_or more j 0)
@@ -240,7 +240,7 @@ module _ (n : ℕ) (old new : Running) (names : List ℕ) where
           record {
             low = low.low;
             high = low.high;
-            is-left = both.0;
+            is_left_lem = both.0;
             may = both.1;
             lower = λ j a b w. sym (ap (λ t. t && ready old names xs j) w) ∙ low.lower j a b;
           },
@@ -300,7 +300,7 @@ module _ (n : ℕ) (old new : Running) (names : List ℕ) where
     takes_lowest i j l m h =
         let k = get_or order j 0 in
         let later = order_run.places j m in
-        let both = both_true (starts old new k) (not (any (eqb k) (take j order))) later.is-left in
+        let both = both_true (starts old new k) (not (any (eqb k) (take j order))) later.is_left_lem in
         unready old names (take i order) k
         ((order_run.places i (omega arith)).lower k later.low h
         (ap₂ (λ s t. s && not t) both.0 (unlisted k (not-true _ both.1))))

@@ -64,7 +64,7 @@ module _ (book : List ℕ) (words room : ℕ) where
 
   -- what it answers once no refusal before 17 applies
   strict_result_lem : (b : Problem) → StrictPast book words room b → strict_result book words room ≡ planned b (strict_plan b)
-  strict_result_lem b h = at_fine b h.past.reads h.fine-enough ∙ result_with_lem strict_plan book words room b h.past
+  strict_result_lem b h = at_fine b h.past.reads h.fine_enough ∙ result_with_lem strict_plan book words room b h.past
 
   -- and a sheet or 17 is given only there
   abbrev GivenBy : Result Output → Type 0
@@ -82,7 +82,7 @@ module _ (book : List ℕ) (words room : ℕ) where
       at b e (no q) =
           let x : (b : Problem) × Past12 book words room b = only-fine (subst GivenBy (at_fine b e q) n) in
           let same : b ≡ x.0 = done-same b x.0 (sym e ∙ x.1.reads) in
-          (x.0, record { past = x.1; fine-enough = λ z. q (ap (λ (y : Problem). y.fineness) same ∙ z) })
+          (x.0, record { past = x.1; fine_enough = λ z. q (ap (λ (y : Problem). y.fineness) same ∙ z) })
 
       go : (x : Result Problem) → read_book book ≡ x → (b : Problem) × StrictPast book words room b
       go (refused r line) e =
@@ -105,7 +105,7 @@ strict_answered_as book words room a e = subst (λ (x : Answer). StrictAnswered 
 
 -- d is 2 or more
 two_or_more : (book : List ℕ) (words room : ℕ) (b : Problem) → StrictPast book words room b → 2 ≤ b.fineness
-two_or_more book words room b h = more b.fineness (book-valid book b h.past.reads).fine-some h.fine-enough
+two_or_more book words room b h = more b.fineness (book-valid book b h.past.reads).fine_some h.fine_enough
   where
     more : (d : ℕ) → 1 ≤ d → (d ≡ 1 → ⊥) → 2 ≤ d
     more d l n = omega arith

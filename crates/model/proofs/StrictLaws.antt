@@ -126,13 +126,13 @@ apart s c d h n m e =
     let x : Rounded s.step (length c * (s.step - 1)) (sum_in s.place c) (grid_in s c) = rounded-choice s h c in
     let y : Rounded s.step (length d * (s.step - 1)) (sum_in s.place d) (grid_in s c)
     = subst (Rounded s.step (length d * (s.step - 1)) (sum_in s.place d)) e (rounded-choice s h d) in
-    let few : x.j ≤ spread_of s = le_trans x.j-fits (mul-le-mul_right (s.step - 1) n) in
-    let fed : y.j ≤ spread_of s = le_trans y.j-fits (mul-le-mul_right (s.step - 1) m) in
+    let few : x.j ≤ spread_of s = le_trans x.j_fits (mul-le-mul_right (s.step - 1) n) in
+    let fed : y.j ≤ spread_of s = le_trans y.j_fits (mul-le-mul_right (s.step - 1) m) in
     record {
-      active = omega (arith, x.p-is, y.p-is, le_trans y.i-fits (mul-le-mul_right (s.step - 1) m));
+      active = omega (arith, x.p_is, y.p_is, le_trans y.i_fits (mul-le-mul_right (s.step - 1) m));
       reactive =
-          subst (λ z. nat_abs (sum_in s.place d).q ≤ nat_abs z + spread_of s) (sym x.q-is)
-          (subst (λ z. nat_abs z ≤ nat_abs (times (grid_in s c).q s.step +ℤ pos x.j) + spread_of s) (sym y.q-is)
+          subst (λ z. nat_abs (sum_in s.place d).q ≤ nat_abs z + spread_of s) (sym x.q_is)
+          (subst (λ z. nat_abs z ≤ nat_abs (times (grid_in s c).q s.step +ℤ pos x.j) + spread_of s) (sym y.q_is)
           (abs_near (grid_in s c).q s.step (spread_of s) y.j x.j fed few));
     }
 

@@ -33,4 +33,4 @@ module _ (b : Problem) (valid : ValidBook b) (c : Choice) (chosen : IsChoice b.l
   choice-small = choice_every (Every SettingSmall) SettingSmall (λ vs v h n. every_mem SettingSmall v vs n h) b.loads c valid.loads.small chosen
 
   pub choice-few : length c ≤ most_loads
-  choice-few = omega (arith, chosen_length b.loads c chosen, valid.loads-few)
+  choice-few = omega (arith, chosen_length b.loads c chosen, valid.loads_few)

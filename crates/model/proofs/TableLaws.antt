@@ -78,7 +78,7 @@ pub choices-within : (r n : ℕ) (slots : List Slot) (loads : List Settings) →
     → Every (λ c. T (range_all slots (grids_of slots c)) → WithinAll slots (grids_of slots c)) (choices loads)
 choices-within r n slots loads h =
     each-choice (SettingKept r) (λ c. T (range_all slots (grids_of slots c)) → WithinAll slots (grids_of slots c)) loads
-    (λ c e k. within_all r n h.some-ratio slots h.for c (omega (arith, h.few)) k)
+    (λ c e k. within_all r n h.some_ratio slots h.for c (omega (arith, h.few)) k)
     h.keeps
 
 -- ---- H is the number of cells that hold something

@@ -286,16 +286,16 @@ module _ (bytes : List ℕ) (b : Problem) (e : read_book bytes ≡ done b) where
         loads = subst (λ r. ValidLoads (length b.loads) (length b.limits) r b.loads) (sym ratio-is)
             (subst (λ k. ValidLoads k (length b.limits) (ratio_in line) b.loads) (sym loads-count)
             (subst (λ k. ValidLoads (load_count line) k (ratio_in line) b.loads) (sym slots-count) good));
-        slots-some = omega (arith, slots-count, h.slots.0);
-        slots-few = omega (arith, slots-count, h.slots.1);
-        loads-some = omega (arith, loads-count, h.loads.0);
-        loads-few = omega (arith, loads-count, h.loads.1);
-        fine-some = omega (arith, h.fineness.0);
-        fine-few = omega (arith, h.fineness.1);
-        ratio-some = omega (arith, ratio-is, h.ratio.0);
-        ratio-few = omega (arith, ratio-is, h.ratio.1);
-        budget-small = omega (arith, ap (λ (x : Problem). x.budget) read.same, field_below line (8 + ratio_digits line) 8);
-        limits-small = subst (λ (x : Problem). Every (λ s. s ≤ most_limit) x.limits) read.same
+        slots_some = omega (arith, slots-count, h.slots.0);
+        slots_few = omega (arith, slots-count, h.slots.1);
+        loads_some = omega (arith, loads-count, h.loads.0);
+        loads_few = omega (arith, loads-count, h.loads.1);
+        fine_some = omega (arith, h.fineness.0);
+        fine_few = omega (arith, h.fineness.1);
+        ratio_some = omega (arith, ratio-is, h.ratio.0);
+        ratio_few = omega (arith, ratio-is, h.ratio.1);
+        budget_small = omega (arith, ap (λ (x : Problem). x.budget) read.same, field_below line (8 + ratio_digits line) 8);
+        limits_small = subst (λ (x : Problem). Every (λ s. s ≤ most_limit) x.limits) read.same
             (every_image (λ s. s ≤ most_limit) (λ s. field line (16 + ratio_digits line + 4 * s) 4) (upto (slot_count line))
             (λ s. omega (arith, field_below line (16 + ratio_digits line + 4 * s) 4)));
       }
@@ -334,4 +334,4 @@ book_bounded bytes =
 
 -- no sheet has more than 159 bytes
 pub sheet-few : (b : Problem) → ValidBook b → sheet_length b ≤ most_sheet
-sheet-few b v = omega (arith, v.slots-few, v.loads-few)
+sheet-few b v = omega (arith, v.slots_few, v.loads_few)

@@ -99,12 +99,12 @@ pub valid-kept : (b : Problem) → ValidBook b → problem_of (book_value b) ≡
 unfolding problem_of book_value
 valid-kept b g =
     let limits_are : take (length b.limits) (map (λ s. get_or b.limits s 0) (upto 4)) ≡ b.limits
-    = take-upto (λ s. get_or b.limits s 0) (length b.limits) 4 g.slots-few ∙ upto_is (λ s. get_or b.limits s 0) b.limits 0 (λ i l. refl) in
+    = take-upto (λ s. get_or b.limits s 0) (length b.limits) 4 g.slots_few ∙ upto_is (λ s. get_or b.limits s 0) b.limits 0 (λ i l. refl) in
     let loads_are : map (settings_in (length b.limits)) (take (length b.loads) (map (λ k. load_value (get_or b.loads k [])) (upto most_loads))) ≡ b.loads
-    = ap (map (settings_in (length b.limits))) (take-upto (λ k. load_value (get_or b.loads k [])) (length b.loads) most_loads g.loads-few)
+    = ap (map (settings_in (length b.limits))) (take-upto (λ k. load_value (get_or b.loads k [])) (length b.loads) most_loads g.loads_few)
     ∙ map-map (settings_in (length b.limits)) (λ k. load_value (get_or b.loads k [])) (upto (length b.loads))
     ∙ upto_is (λ k. settings_in (length b.limits) (load_value (get_or b.loads k []))) b.loads [] (λ k l.
-    value_kept (length b.limits) (get_or b.loads k []) g.slots-few
+    value_kept (length b.limits) (get_or b.loads k []) g.slots_few
     (load_labelled g k l)
     (every_at (Every (λ v. length v.powers ≡ length b.limits)) b.loads [] g.loads.powers k l)
     (every_at (Every SettingSmall) b.loads [] g.loads.small k l)) in

@@ -62,7 +62,7 @@ accepted-known book sheet x e =
     subst (Known sheet) (done-same (record { b = b; choice = on.0 }) x on.2)
     (record {
       valid = book-valid book b read.1;
-      chosen = subst (IsChoice b.loads) s.1 s.0.of-book;
+      chosen = subst (IsChoice b.loads) s.1 s.0.of_book;
       trials = s.0.trials;
       bytes = s.0.bytes ∙ ap (λ c. sheet_bytes b c s.0.trials) s.1;
     })
@@ -137,16 +137,16 @@ lines_back (x ∷ xs) (y ∷ ys) h k e =
     let both = line_front x y (slot_lines xs) (slot_lines ys) h.0 k.0 e in
     ap₂ {C = List SumsAndLimit} (λ z zs. z ∷ zs) both.0 (lines_back xs ys h.1 k.1 both.1)
 
-sums-small : (b : Problem) (c : Choice) → ValidBook b → IsChoice b.loads c → Every SumSmall (sums_and_limits b c)
+sums_small : (b : Problem) (c : Choice) → ValidBook b → IsChoice b.loads c → Every SumSmall (sums_and_limits b c)
 unfolding sums_and_limits
-sums-small b c valid chosen =
+sums_small b c valid chosen =
     every_image SumSmall (sums_and_limit b c) (upto (length b.limits)) (λ s.
     let small = sum-small c (choice-small b valid c chosen) s in
     let few = choice-few b valid c chosen in
     record {
       active = omega (arith, small.active);
       reactive = omega (arith, small.reactive);
-      limit = omega (arith, every_get_d (λ l. l ≤ most_limit) b.limits 0 (omega arith) valid.limits-small s);
+      limit = omega (arith, every_get_d (λ l. l ≤ most_limit) b.limits 0 (omega arith) valid.limits_small s);
     })
 
 pub other_seen : OtherSeen
@@ -157,7 +157,7 @@ other_seen x y u v differ e =
     small : (z : SupplyCall) → Every SumSmall (sums_and_limits_on z.known)
     small z =
         let k = accepted-known z.book z.sheet z.known z.accepts in
-        sums-small z.known.b z.known.choice k.valid k.chosen
+        sums_small z.known.b z.known.choice k.valid k.chosen
 
     lines : (z : SupplyCall) → z.answer.number ≡ 0 → view_of z ≡ slot_lines (sums_and_limits_on z.known)
     lines z zero = room_left (slot_lines (sums_and_limits_on z.known)) (length z.before) (alone z) zero

@@ -44,7 +44,7 @@ joined (book ∷ next ∷ books) = book ++ lf ++ joined (next ∷ books)
 pub record Whole (book : List ℕ) : Type 0 where
   pub lines : List ℕ
   pub ends : book ≡ lines ++ lf
-  pub no_empty-line : empty_lines book ≡ 0
+  pub no_empty_line : empty_lines book ≡ 0
 
 -- splitting and joining are inverse there (proofs/DayLaws, `split_joined` and `joined_split`)
 abbrev pub SplitJoined : Type 0

@@ -31,9 +31,9 @@ pub record SomeAdmitted (b : Problem) : Type 0 where
 -- the number that a planner answers is 0 exactly where a book is past the refusals before 17 and has some plan, and 17 exactly where it is past them and has none
 pub record NumberIs (Past SomePlan : Problem → Type 0) (number : ℕ) : Type 0 where
   pub sheet : (b : Problem) → Past b → SomePlan b → number ≡ 0
-  pub sheet-only : number ≡ 0 → (b : Problem) × Past b × SomePlan b
+  pub sheet_only : number ≡ 0 → (b : Problem) × Past b × SomePlan b
   pub no_plan : (b : Problem) → Past b → (SomePlan b → ⊥) → number ≡ 17
-  pub no_plan-only : number ≡ 17 → (b : Problem) × Past b × (SomePlan b → ⊥)
+  pub no_plan_only : number ≡ 17 → (b : Problem) × Past b × (SomePlan b → ⊥)
 
 -- the planner's number is 0 exactly where no refusal applies, and 17 exactly where none of 1 to 12 does and "no choice is admitted" (M-104);
 -- M-105: "exactly when no refusal before it applies and none of those is admitted", of "the choices that run every such load"

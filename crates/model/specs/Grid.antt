@@ -74,8 +74,8 @@ times (negsuc n) l = neg_ℤ (pos (suc n * l))
 pub record Admissible (s : Slot) (g : GridPair) : Type 0 where
   pub i : ℕ
   pub j : ℕ
-  pub i-fits : i ≤ spread_of s
-  pub j-fits : j ≤ spread_of s
+  pub i_fits : i ≤ spread_of s
+  pub j_fits : j ≤ spread_of s
   pub inside : square (g.p * s.step + i) + squareℤ (times g.q s.step +ℤ pos j) ≤ square s.limit
 
 -- |q| of "the q nearest to 0"

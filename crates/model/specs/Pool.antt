@@ -97,9 +97,9 @@ AlwaysRoom = (one two : List ℕ) (m : Mills) (room : ℕ) → poolable one two 
 -- "one choice keeps every limit in the first book, another in the second"
 pub record BothKeep (m : Mills) (c d : Choice) : Type 0 where
   pub of_first : IsChoice m.a.loads c
-  pub keeps-first : KeepsLimits m.a c
+  pub keeps_first : KeepsLimits m.a c
   pub of_second : IsChoice m.b.loads d
-  pub keeps-second : KeepsLimits m.b d
+  pub keeps_second : KeepsLimits m.b d
 
 -- WHAT HOLDS of two books' bytes and the bytes that pooling wrote (proofs/JointLaws, `pooled_given`)
 pub record Pooled (one two bytes : List ℕ) : Type 0 where

@@ -77,7 +77,7 @@ strict_free bytes words room = free_for (strict_book bytes words room)
 -- no refusal before 17 applies: none of 1 to 12, and not 20
 pub record StrictPast (book : List ℕ) (words room : ℕ) (b : Problem) : Type 0 where
   pub past : Past12 book words room b
-  pub fine-enough : b.fineness ≡ 1 → ⊥
+  pub fine_enough : b.fineness ≡ 1 → ⊥
 
 -- one "of the compared choices fits"
 pub record SomeKeeping (b : Problem) : Type 0 where

@@ -40,16 +40,16 @@ pub record ValidLoads (n t r : ℕ) (loads : List Settings) : Type 0 where
 -- document 01's ranges, and M-108's of the ratio
 pub record ValidBook (b : Problem) : Type 0 where
   pub loads : ValidLoads (length b.loads) (length b.limits) b.ratio b.loads
-  pub slots-some : 1 ≤ length b.limits
-  pub slots-few : length b.limits ≤ most_slots
-  pub loads-some : 1 ≤ length b.loads
-  pub loads-few : length b.loads ≤ most_loads
-  pub fine-some : 1 ≤ b.fineness
-  pub fine-few : b.fineness ≤ most_fineness
-  pub ratio-some : 1 ≤ b.ratio
-  pub ratio-few : b.ratio ≤ most_ratio
-  pub budget-small : b.budget < 2 ^ 32
-  pub limits-small : Every (λ s. s ≤ most_limit) b.limits
+  pub slots_some : 1 ≤ length b.limits
+  pub slots_few : length b.limits ≤ most_slots
+  pub loads_some : 1 ≤ length b.loads
+  pub loads_few : length b.loads ≤ most_loads
+  pub fine_some : 1 ≤ b.fineness
+  pub fine_few : b.fineness ≤ most_fineness
+  pub ratio_some : 1 ≤ b.ratio
+  pub ratio_few : b.ratio ≤ most_ratio
+  pub budget_small : b.budget < 2 ^ 32
+  pub limits_small : Every (λ s. s ≤ most_limit) b.limits
 
 -- no book that is read is longer than 3,515 bytes (proofs/LengthLaws, `longest_book`)
 abbrev pub LongestBook : Type 0
@@ -65,7 +65,7 @@ SlotsFor r n (s ∷ slots) = ((0 < s.step) × (s.loads ≡ n) × (s.ratio ≡ r)
 -- a book's slots and loads, as the reader makes them: n loads in all, of which `loads` are the first, with |Q| ≤ r × P
 pub record Ready (r n : ℕ) (slots : List Slot) (loads : List Settings) : Type 0 where
   pub for : SlotsFor r n slots
-  pub some-ratio : 0 < r
+  pub some_ratio : 0 < r
   pub few : length loads ≤ n
   pub keeps : Every (Every (SettingKept r)) loads
 

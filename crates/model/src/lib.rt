@@ -1,11 +1,12 @@
 // The declared types of the load planner. What a value of each says is defined in specs/.
+#![tactic(auto)]
 ghost use Rattle.std.specs.Prelude.{◌≡◌, ◌+◌, ◌-◌, []};
 ghost use Rattle.model.specs.Refusals.{number_of};
 ghost use Rattle.model.specs.Answers.{success_answer, refusal_answer};
 ghost use Rattle.model.specs.Values.{load_value, fresh_book};
 
 // Why a call gives no result; specs/Refusals.antt has the number of each, and document 01's word or document 02's request.
-#[derive(Drop)]
+#[derive(Clone, Copy)]
 pub enum Refusal {
     Unterminated,
     NotHex,
@@ -34,7 +35,7 @@ pub enum Refusal {
 }
 
 // What the table of refusals says: none applies, or the first that does.
-#[derive(Drop)]
+#[derive(Clone, Copy)]
 pub enum Finding {
     Passed,
     Refused(Refusal),
@@ -42,7 +43,7 @@ pub enum Finding {
 
 // What a public call answers. Success has number 0 and line 0.
 #[repr(C)]
-#[derive(Drop)]
+#[derive(Clone, Copy)]
 pub struct Answer {
     pub number: u64,
     pub line: u64,
@@ -53,7 +54,7 @@ pub struct Answer {
 
 // What the sheet reader answers: the code of the sheet's choice after the rest.
 #[repr(C)]
-#[derive(Drop)]
+#[derive(Clone, Copy)]
 pub struct SheetAnswer {
     pub answer: Answer,
     pub code: u64,
@@ -61,7 +62,7 @@ pub struct SheetAnswer {
 
 // What the charge of a plan answers: the charge, in hundredths of a unit of money, after the rest.
 #[repr(C)]
-#[derive(Drop)]
+#[derive(Clone, Copy)]
 pub struct ChargeAnswer {
     pub answer: Answer,
     pub charge: u64,
@@ -69,7 +70,7 @@ pub struct ChargeAnswer {
 
 // What the order of starting answers: how many loads start, and how many stop, after the rest.
 #[repr(C)]
-#[derive(Drop)]
+#[derive(Clone, Copy)]
 pub struct OrderAnswer {
     pub answer: Answer,
     pub starts: u64,
@@ -79,7 +80,7 @@ pub struct OrderAnswer {
 // A load: it has `settings` settings, with the numbers from `least` on; standing is number 0, the options are 1 and up. Setting c has
 // worths[c] and, in slot s, the active power actives[4 c + s] and the reactive power reactives[4 c + s] - 32,768. Where `least` is 1,
 // the places of setting 0 hold no worth and no power.
-#[derive(Drop)]
+#[derive(Clone, Copy)]
 pub struct Load {
     pub settings: usize,
     pub worths: [u64; Load::SETTINGS],
@@ -89,7 +90,7 @@ pub struct Load {
 }
 
 // A book that was read: the header's numbers and limits, and the loads in book order.
-#[derive(Drop)]
+#[derive(Clone, Copy)]
 pub struct Book {
     pub slots: usize,
     pub count: usize,
@@ -101,7 +102,7 @@ pub struct Book {
 }
 
 // What the book reader answers; the book is a fresh one where the answer is a refusal.
-#[derive(Drop)]
+#[derive(Clone, Copy)]
 pub struct Reading {
     pub answer: Answer,
     pub book: Book,

@@ -30,7 +30,7 @@ pub load_all : (x : Load) (h : LoadHeld x) (slots : List Slot) (k : ℕ) (moves 
     → LoadIs slots k h.settings (record { count = x.settings; moves = moves })
 load_all x h slots k moves f =
     record {
-      count-is = load_count_lem x h;
+      count_is = load_count_lem x h;
       count_fits = omega (arith, h.labels.few);
       ascending = λ m n l j. omega (arith, number m (omega arith), number n j);
       each = λ n l. subst (λ v. MoveIs slots k v (get_or moves n no_move))

@@ -39,7 +39,7 @@ digit_most n x c w d m h k some =
 
 -- from slot t on
 pub record Moved (slots : List Slot) (v : Setting) (t back up down : ℕ) (active : List ℕ) : Type 0 where
-  pub active-length : length active ≡ 4
+  pub active_length : length active ≡ 4
   pub back_is : back ≡ row_index (drop t slots) (setting_grids (drop t slots) v)
   pub shift_is : up + column_down (drop t slots) (setting_grids (drop t slots) v) ≡ down + column_up (drop t slots) (setting_grids (drop t slots) v)
   pub actives_are : (i : ℕ) → t ≤ i → i < length slots → get_or active i 0 ≡ (setting_grid (get_or slots i no_slot) v).p
@@ -51,7 +51,7 @@ pub moved_none : (slots : List Slot) (v : Setting) (t : ℕ) (active : List ℕ)
 moved_none slots v t active e four =
     let none : drop t slots ≡ [] = drop_of_length-le slots {i = t} (omega arith) in
     record {
-      active-length = four;
+      active_length = four;
       back_is = ap (λ ss. row_index ss (setting_grids ss v)) (sym none);
       shift_is = subst (λ ss. 0 + column_down ss (setting_grids ss v) ≡ 0 + column_up ss (setting_grids ss v)) (sym none) refl;
       actives_are = λ i h l. absurd (omega arith);
@@ -63,8 +63,8 @@ moved_none slots v t active e four =
 -- the numbers of one slot and of a setting there
 pub record Digits (s : Slot) (v : Setting) (x : SlotGrid) (a b : ℕ) : Type 0 where
   pub slot_is : SlotIs s x
-  pub active-is : a ≡ (setting_grid s v).p
-  pub reactive-is : b ≡ raised (setting_grid s v).q
+  pub active_is : a ≡ (setting_grid s v).p
+  pub reactive_is : b ≡ raised (setting_grid s v).q
 
 -- what is left of the slots, one slot sooner
 left-more : (t n : ℕ) → t < n → n - t ≡ n - suc t + 1
@@ -76,15 +76,15 @@ module _ (slots : List Slot) (v : Setting) (small : SettingSmall v) (t : ℕ) (l
   near = floor_small (power_in (get_or slots t no_slot).place v).q (get_or slots t no_slot).step (small.reactive (get_or slots t no_slot).place)
 
   pub a_small : a ≤ 65535
-  a_small = omega (arith, d.active-is, small.active (get_or slots t no_slot).place, div-le_self (power_in (get_or slots t no_slot).place v).p (get_or slots t no_slot).step)
+  a_small = omega (arith, d.active_is, small.active (get_or slots t no_slot).place, div-le_self (power_in (get_or slots t no_slot).place v).p (get_or slots t no_slot).step)
 
   pub b-small : b ≤ 65536
-  b-small = omega (arith, d.reactive-is, raised-small (setting_grid (get_or slots t no_slot) v).q near)
+  b-small = omega (arith, d.reactive_is, raised-small (setting_grid (get_or slots t no_slot) v).q near)
 
   back_bound : back * x.top + a ≤ 65536 * (length slots - t) * row_count (drop t slots)
   back_bound =
       let e = rows_more slots t l x d.slot_is in
-      let h = digit_most (length slots - suc t) back (row_count (drop (suc t) slots)) x.top a 65536 m.back-most (omega (arith, a_small)) (omega (arith, e, rows_some (drop t slots))) in
+      let h = digit_most (length slots - suc t) back (row_count (drop (suc t) slots)) x.top a 65536 m.back_most (omega (arith, a_small)) (omega (arith, e, rows_some (drop t slots))) in
       subst (λ n. back * x.top + a ≤ 65536 * n * row_count (drop t slots)) (sym (left-more t (length slots) l))
       (subst (λ n. back * x.top + a ≤ 65536 * (length slots - suc t + 1) * n) e h)
 
@@ -102,18 +102,18 @@ module _ (slots : List Slot) (v : Setting) (small : SettingSmall v) (t : ℕ) (l
       let e = drop-cons slots t no_slot l in
       let rest = drop (suc t) slots in
       record {
-        active-length = length-set active t a ∙ m.active-length;
-        back_is = ap₂ (λ m n. m * x.top + n) m.back_is d.active-is
-            ∙ ap (λ n. row_index rest (setting_grids rest v) * n + (setting_grid s v).p) d.slot_is.top-is
+        active_length = length-set active t a ∙ m.active_length;
+        back_is = ap₂ (λ m n. m * x.top + n) m.back_is d.active_is
+            ∙ ap (λ n. row_index rest (setting_grids rest v) * n + (setting_grid s v).p) d.slot_is.top_is
             ∙ ap (λ ss. row_index ss (setting_grids ss v)) (sym e);
         shift_is = subst (λ ss. up * x.width + b + column_down ss (setting_grids ss v) ≡ down * x.width + 32768 + column_up ss (setting_grids ss v)) (sym e)
             (subst (λ w. up * w + b + column_down (s ∷ rest) (setting_grids (s ∷ rest) v) ≡ down * w + 32768 + column_up (s ∷ rest) (setting_grids (s ∷ rest) v)) (sym d.slot_is.width_is)
             (digit-plus up (column_down rest (setting_grids rest v)) down (column_up rest (setting_grids rest v)) (width_of s) b (index.down (setting_grid s v).q) 32768 (index.up (setting_grid s v).q) m.shift_is
-            (ap (λ n. n + index.down (setting_grid s v).q) d.reactive-is ∙ raised_parts (setting_grid s v).q near)));
-        actives_are = set-down (λ i n. n ≡ (setting_grid (get_or slots i no_slot) v).p) active t (length slots) a 0 (omega (arith, m.active-length)) d.active-is (λ i h k. m.actives-are i h k);
+            (ap (λ n. n + index.down (setting_grid s v).q) d.reactive_is ∙ raised_parts (setting_grid s v).q near)));
+        actives_are = set-down (λ i n. n ≡ (setting_grid (get_or slots i no_slot) v).p) active t (length slots) a 0 (omega (arith, m.active_length)) d.active_is (λ i h k. m.actives_are i h k);
         back_most = back_bound;
-        up_most = column_bound up b m.up-most b-small;
-        down_most = column_bound down 32768 m.down-most (omega arith);
+        up_most = column_bound up b m.up_most b-small;
+        down_most = column_bound down 32768 m.down_most (omega arith);
       }
 
 -- nothing is over 2^38
@@ -124,13 +124,13 @@ module _ (slots : List Slot) (v : Setting) (few : length slots ≤ 4) (fits : ce
       omega (arith, mul-le-mul n k)
 
   pub back_fits : back ≤ 274877906944
-  back_fits = room back (row_count (drop t slots)) m.back-most (rows_fit (drop t slots) (cells_fit slots t fits))
+  back_fits = room back (row_count (drop t slots)) m.back_most (rows_fit (drop t slots) (cells_fit slots t fits))
 
   pub up_fits : up ≤ 274877906944
-  up_fits = room up (column_count (drop t slots)) m.up-most (columns_fit (drop t slots) (cells_fit slots t fits))
+  up_fits = room up (column_count (drop t slots)) m.up_most (columns_fit (drop t slots) (cells_fit slots t fits))
 
   pub down_fits : down ≤ 274877906944
-  down_fits = room down (column_count (drop t slots)) m.down-most (columns_fit (drop t slots) (cells_fit slots t fits))
+  down_fits = room down (column_count (drop t slots)) m.down_most (columns_fit (drop t slots) (cells_fit slots t fits))
 
 -- the actives, place by place
 pub actives_in : (active : List ℕ) (v : Setting) (t : ℕ) (slots : List Slot) → ((i : ℕ) → i < length slots → get_or active (t + i) 0 ≡ (setting_grid (get_or slots i no_slot) v).p)
@@ -182,8 +182,8 @@ module _ (x : Load) (h : LoadHeld x) where
           let z = setting_of h.settings c in
           record {
             slot_is = e;
-            active-is = ap₂ (λ m n. m / n) load_p e.step_is ∙ ap (λ i. (power_in i z).p / s.step) (sym place_is);
-            reactive-is = f
+            active_is = ap₂ (λ m n. m / n) load_p e.step_is ∙ ap (λ i. (power_in i z).p / s.step) (sym place_is);
+            reactive_is = f
                 ∙ ap (λ q. raised (floor_div q (get_or v.steps t 0))) (ap lowered load_q ∙ raised_back (power_in t z).q (load_setting.reactive t))
                 ∙ ap₂ (λ i n. raised (floor_div (power_in i z).q n)) (sym place_is) e.step_is;
           }
@@ -197,10 +197,10 @@ module _ (x : Load) (h : LoadHeld x) where
       let number_is : c ≡ v.number = sym (offered-number h.settings h.labels c (omega (arith, load_least), omega (arith, load_least, load_count_lem))) in
       record {
         gain_is = load_worth c (omega (arith, load_few));
-        digit-is = ap₂ (λ i n. i * n) number_is e;
+        digit_is = ap₂ (λ i n. i * n) number_is e;
         back_is = m.back_is;
         shift_is = m.shift_is;
-        actives_are = actives_in active v 0 slots (λ i j. ap (λ n. get_or active n 0) (zero-add i) ∙ m.actives-are i (omega arith) j);
+        actives_are = actives_in active v 0 slots (λ i j. ap (λ n. get_or active n 0) (zero-add i) ∙ m.actives_are i (omega arith) j);
         up_fits = omega (arith, up_fits slots v few fits 0 back up down active m);
         down_fits = omega (arith, down_fits slots v few fits 0 back up down active m);
       }

@@ -29,7 +29,7 @@ ActivesAre active t (s ∷ slots) v = (get_or active t 0 ≡ (setting_grid s v).
 -- `mv` is what the setting v of load k + 1 does
 pub record MoveIs (slots : List Slot) (k : ℕ) (v : Setting) (mv : SettingMove) : Type 0 where
   pub gain_is : mv.gain ≡ v.worth
-  pub digit-is : mv.digit ≡ v.number * 4 ^ k
+  pub digit_is : mv.digit ≡ v.number * 4 ^ k
   pub back_is : mv.back ≡ row_index slots (setting_grids slots v)
   -- only the difference of the two counts, so that both may be raised alike
   pub shift_is : mv.up + column_down slots (setting_grids slots v) ≡ mv.down + column_up slots (setting_grids slots v)
@@ -39,7 +39,7 @@ pub record MoveIs (slots : List Slot) (k : ℕ) (v : Setting) (mv : SettingMove)
 
 -- `load` is what the settings of load k + 1 do, by ascending number
 pub record LoadIs (slots : List Slot) (k : ℕ) (vs : Settings) (load : LoadMoves) : Type 0 where
-  pub count-is : load.count ≡ length vs
+  pub count_is : load.count ≡ length vs
   pub count_fits : length vs ≤ most_settings
   pub ascending : (m n : ℕ) → m < n → n < length vs → (get_or vs m no_setting).number < (get_or vs n no_setting).number
   pub each : (n : ℕ) → n < length vs → MoveIs slots k (get_or vs n no_setting) (move_of load n)

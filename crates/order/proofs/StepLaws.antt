@@ -94,7 +94,7 @@ module _ (running planned names : List ℕ) where
       found_next : (k : ℕ) → Found on planned names k → k < length names → Next n old new names started (suc k)
       found_next k f l =
           let both = both_true (is_left old new started (suc k)) (ready old names started (suc k)) (sym (may-is k l) ∙ f.may l) in
-          record { low = omega arith; high = omega arith; is-left = both.0; may = both.1; lower = lower }
+          record { low = omega arith; high = omega arith; is_left_lem = both.0; may = both.1; lower = lower }
         where
           lower : (j : ℕ) → 1 ≤ j → j < suc k → is_left old new started j ≡ true → ready old names started j ≡ false
           lower zero a b w = absurd (omega arith)
@@ -114,7 +114,7 @@ module _ (running planned names : List ℕ) where
             go (inr l) (zero, next) = absurd (omega (arith, next.low))
             go (inr l) (suc j, next) =
                 let here : j < length names = omega (arith, next.high) in
-                absurd (false≢true (sym (f.before j (omega arith)) ∙ may-is j here ∙ ap₂ ◌&&◌ next.is-left next.may))
+                absurd (false≢true (sym (f.before j (omega arith)) ∙ may-is j here ∙ ap₂ ◌&&◌ next.is_left_lem next.may))
 
         -- a turn more
         module _ (k : ℕ) (f : Found on planned names k) where
@@ -130,7 +130,7 @@ module _ (running planned names : List ℕ) where
 
           runs : not (eqb (get_or planned k 0) 0) ≡ true
           runs =
-              let begun = (both_true (starts old new (suc k)) (not (any (eqb (suc k)) started)) next.is-left).0 in
+              let begun = (both_true (starts old new (suc k)) (not (any (eqb (suc k)) started)) next.is_left_lem).0 in
               sym (runs_at n planned k inside) ∙ (both_true (not (old (suc k))) (new (suc k)) begun).1
 
           tracked : (j : ℕ) → j < length names

@@ -185,8 +185,8 @@ pub layer-none : {ws lows highs lows' highs' : List ℕ} {grid : Grid} {cur next
     → length lows' ≡ most_rows → length highs' ≡ most_rows → LayerMade ws ws lows highs lows' highs' grid cur next load 0
 layer-none a b = record {
   same_length = refl;
-  low-length = a;
-  high-length = b;
+  low_length = a;
+  high_length = b;
   low_fits = λ row l. absurd (omega arith);
   high_fits = λ row l. absurd (omega arith);
   inside = λ row col l. absurd (omega arith);
@@ -218,10 +218,10 @@ module _ {ws ws' lows highs lows' highs' : List ℕ} (grid : Grid) (cur next row
 
   module _ {ws'' : List ℕ} {asked : Bool} {m : Made} (q : RowMade ws' ws'' lows highs grid cur next load row asked m) where
     a : row < length lows'
-    a = omega (arith, r.low-length, g.rows_fit)
+    a = omega (arith, r.low_length, g.rows_fit)
 
     b : row < length highs'
-    b = omega (arith, r.high-length, g.rows_fit)
+    b = omega (arith, r.high_length, g.rows_fit)
 
     -- an earlier row, and this one
     earlier : (i col : ℕ) → i < row → col < grid.width
@@ -242,8 +242,8 @@ module _ {ws ws' lows highs lows' highs' : List ℕ} (grid : Grid) (cur next row
     pub layer-more : LayerMade ws ws'' lows highs (set lows' row m.low) (set highs' row m.high) grid cur next load (row + 1)
     layer-more = record {
       same_length = q.same_length ∙ r.same_length;
-      low-length = length-set lows' row m.low ∙ r.low-length;
-      high-length = length-set highs' row m.high ∙ r.high-length;
+      low_length = length-set lows' row m.low ∙ r.low_length;
+      high_length = length-set highs' row m.high ∙ r.high_length;
       low_fits = below_more (λ i. get_or (set lows' row m.low) i 0 ≤ grid.width) row
           (λ i h. rw (get_or-set_other lows' row i m.low 0 (omega arith)) (r.low_fits i h)) (rw (get_or-set_same lows' row m.low 0 a) q.low_fits);
       high_fits = below_more (λ i. get_or (set highs' row m.high) i 0 ≤ grid.width) row
@@ -281,12 +281,12 @@ pub below : {grid : Grid} {load : LoadMoves} {used rows row : ℕ} → Reaches g
 below f l = omega (arith, f.fits)
 
 pub empty-more : {lows highs : List ℕ} {used used' : ℕ} → used ≤ used' → EmptyFrom lows highs used → EmptyFrom lows highs used'
-empty-more h i = record { no_low = λ row l. i.no-low row (omega arith); no_high = λ row l. i.no-high row (omega arith) }
+empty-more h i = record { no_low = λ row l. i.no_low row (omega arith); no_high = λ row l. i.no_high row (omega arith) }
 
 pub empty-set_row : {lows highs : List ℕ} {rows : ℕ} (row a b : ℕ) → row < rows → EmptyFrom lows highs rows → EmptyFrom (set lows row a) (set highs row b) rows
 empty-set_row {lows} {highs} row a b l i = record {
-  no_low = λ j h. get_or-set_other lows row j a 0 (λ e. omega arith) ∙ i.no-low j h;
-  no_high = λ j h. get_or-set_other highs row j b 0 (λ e. omega arith) ∙ i.no-high j h;
+  no_low = λ j h. get_or-set_other lows row j a 0 (λ e. omega arith) ∙ i.no_low j h;
+  no_high = λ j h. get_or-set_other highs row j b 0 (λ e. omega arith) ∙ i.no_high j h;
 }
 
 module _ {ws ws' lows highs lows' highs' : List ℕ} {grid : Grid} {cur next : ℕ} {load : LoadMoves} {used rows : ℕ}
@@ -295,20 +295,20 @@ module _ {ws ws' lows highs lows' highs' : List ℕ} {grid : Grid} {cur next : �
   -- nothing is held in such a row, and nothing comes to it
   rest_none : (row col : ℕ) → rows ≤ row → held ws' lows' highs' next grid.width row col ≡ none
   unfolding held
-  rest_none row col h = rw (blank'.no-low row h, blank'.no-high row h) (held_high ws' (next + row * grid.width) 0 0 col (omega arith))
+  rest_none row col h = rw (blank'.no_low row h, blank'.no_high row h) (held_high ws' (next + row * grid.width) 0 0 col (omega arith))
 
   rest_offers : (row col : ℕ) → rows ≤ row → row < grid.rows → join_upto load.count (offer_of ws lows highs grid cur load row col) ≡ none
   rest_offers row col h l =
       offers_none ws lows highs grid cur load row col
-      (λ m k o. let f = far.far m k row h l in let z = blank.no-high (row - (move_of load m).back) (omega arith) in omega (arith, o.from_low, o.to_high))
+      (λ m k o. let f = far.far m k row h l in let z = blank.no_high (row - (move_of load m).back) (omega arith) in omega (arith, o.from_low, o.to_high))
 
   pub layer_rest : LayerMade ws ws' lows highs lows' highs' grid cur next load grid.rows
   layer_rest = record {
     same_length = r.same_length;
-    low-length = r.low-length;
-    high-length = r.high-length;
-    low_fits = λ row l. ⊎_elim (r.low_fits row) (λ (h : rows ≤ row). omega (arith, blank'.no-low row h)) (split row rows);
-    high_fits = λ row l. ⊎_elim (r.high_fits row) (λ (h : rows ≤ row). omega (arith, blank'.no-high row h)) (split row rows);
+    low_length = r.low_length;
+    high_length = r.high_length;
+    low_fits = λ row l. ⊎_elim (r.low_fits row) (λ (h : rows ≤ row). omega (arith, blank'.no_low row h)) (split row rows);
+    high_fits = λ row l. ⊎_elim (r.high_fits row) (λ (h : rows ≤ row). omega (arith, blank'.no_high row h)) (split row rows);
     inside = λ row col l k. ⊎_elim
         (λ (h : row < rows). r.inside row col h k)
         (λ (h : rows ≤ row). rest_none row col h ∙ sym (rest_offers row col h l))

@@ -28,8 +28,8 @@ count_rows (suc n) width f = count_rows n width f + count_upto width (λ col. is
 -- the first n rows of the next layer made from the current one
 pub record LayerMade (ws ws' lows highs lows' highs' : List ℕ) (grid : Grid) (cur next : ℕ) (load : LoadMoves) (n : ℕ) : Type 0 where
   pub same_length : length ws' ≡ length ws
-  pub low-length : length lows' ≡ most_rows
-  pub high-length : length highs' ≡ most_rows
+  pub low_length : length lows' ≡ most_rows
+  pub high_length : length highs' ≡ most_rows
   pub low_fits : (row : ℕ) → row < n → get_or lows' row 0 ≤ grid.width
   pub high_fits : (row : ℕ) → row < n → get_or highs' row 0 ≤ grid.width
   pub inside : (row col : ℕ) → row < n → col < grid.width → held ws' lows' highs' next grid.width row col

@@ -1,6 +1,7 @@
 // One load's pass over the table: each row of the next layer is emptied where something can reach it, and is then offered, for each
 // setting in ascending order, the row that lies as far back as the setting's active powers say. Of each row only a stretch of columns
 // counts.
+#![tactic(auto)]
 ghost use Rattle.std.specs.Prelude.{◌≡◌, true, ◌<◌, length};
 ghost use Rattle.model.specs.Bounds.{most_rows};
 ghost use Rattle.table.specs.Table.{Rows};
@@ -12,7 +13,7 @@ use grid::Grid;
 use stretch::LoadMoves;
 
 // A row that was made: its stretch, and how many of its cells hold something, where that was asked for.
-#[derive(Drop)]
+#[derive(Clone, Copy)]
 pub struct Made {
     pub low: usize,
     pub high: usize,

@@ -1,5 +1,6 @@
 // What every crate of the bench is written with, and what cannot go wrong: a sum wraps, a product of large numbers is 0, and what lies
 // outside a slice reads as 0 and is not written. No value of the bench comes near these edges; they spare each caller a proof.
+#![tactic(auto)]
 
 pub fn plus(a: u64, b: u64) -> u64 {
     std::num::wrapping_add_u64(a, b)
@@ -73,7 +74,7 @@ pub fn put_byte(bytes: &mut [u8], i: u64, byte: u8) {
 }
 
 // A drawn number, and the seed after it.
-#[derive(Drop)]
+#[derive(Clone, Copy)]
 pub struct Drawn {
     pub number: u64,
     pub seed: u64,

@@ -64,9 +64,9 @@ module _ (test : Test) (v : Book) where
   unfolding problem_of
   too_coarse e = ap (λ f. checked 0 f (done (problem_of v))) (first_here TooCoarse [] (coarse test v.fineness) e)
 
-  pub fine-enough : coarse test v.fineness ≡ false → fine_by test (problem_of v) ≡ done (problem_of v)
+  pub fine_enough : coarse test v.fineness ≡ false → fine_by test (problem_of v) ≡ done (problem_of v)
   unfolding problem_of
-  fine-enough e = ap (λ f. checked 0 f (done (problem_of v))) (first_last TooCoarse (coarse test v.fineness) e)
+  fine_enough e = ap (λ f. checked 0 f (done (problem_of v))) (first_last TooCoarse (coarse test v.fineness) e)
 
 -- ---- of a book that was read
 

@@ -41,7 +41,7 @@ module _ (one two : List ℕ) where
   pub lines_there : (m : Mills) → poolable one two ≡ done m → (line_length one < length one) × (line_length two < length two)
   lines_there m e =
       let read : PoolRead one two m = pool_read one two m e in
-      ((book_read one m.a read.reads-one).ends, (book_read two m.b read.reads_two).ends)
+      ((book_read one m.a read.reads_one).ends, (book_read two m.b read.reads_two).ends)
 
   module _ (buffer : List ℕ) where
     -- a refusal of the first book

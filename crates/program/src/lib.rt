@@ -1,4 +1,5 @@
 // What the program prints for its input.
+#![tactic(auto)]
 ghost use Rattle.std.specs.Prelude.{◌≡◌, ◌≤◌, length, replicate};
 ghost use Rattle.model.specs.Bounds.{most_sheet, program_bytes, program_words};
 ghost use Rattle.model.specs.Program.{program_output};
@@ -12,7 +13,7 @@ const BYTES: usize = 4096;
 const WORDS: usize = 6144;
 
 // The first `length` of these bytes are printed. No sheet is longer than the array.
-#[derive(Drop)]
+#[derive(Clone, Copy)]
 pub struct Printed {
     pub bytes: [u8; Book::SHEET],
     pub length: usize,

@@ -57,7 +57,7 @@ key_offered old src gain digit = go src.worth old.worth
 -- a cell that holds little has room
 pub bounded_room : (c : Cell) (top unit gain digit : ℕ) → Bounded top unit (key_of c) → top + 1 + gain < 2 ^ 64 → unit + digit ≤ 2 ^ 64 → Room c gain digit
 unfolding key_of
-bounded_room c top unit gain digit b g d = record { worth-fits = λ h. (go c.worth refl b h).0; code_fits = λ h. (go c.worth refl b h).1 }
+bounded_room c top unit gain digit b g d = record { worth_fits = λ h. (go c.worth refl b h).0; code_fits = λ h. (go c.worth refl b h).1 }
   where
     go : (w : ℕ) → c.worth ≡ w → Bounded top unit (key_if w c.code) → 0 < c.worth → (c.worth + gain < 2 ^ 64) × (c.code + digit < 2 ^ 64)
     go zero e k h = absurd (omega arith)

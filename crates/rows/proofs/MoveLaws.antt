@@ -42,8 +42,8 @@ module _ {lows highs : List ℕ} (grid : Grid) (row : ℕ) (mv : SettingMove) (p
         shift_in = omega (arith, o.from_low);
         source_in = omega (arith, q.to_high, o.from_low);
         target_in = p.end.1;
-        source-end = omega (arith, row_end grid.width k, g.area);
-        target-end = omega (arith, row_end grid.width l, g.area);
+        source_end = omega (arith, row_end grid.width k, g.area);
+        target_end = omega (arith, row_end grid.width l, g.area);
       }
 
   module _ {ws : List ℕ} {cur next : ℕ} (rows : Rows ws cur next grid.cells) (h : part.low < part.high) where
@@ -70,7 +70,7 @@ module _ {lows highs : List ℕ} (grid : Grid) (row : ℕ) (mv : SettingMove) (p
         let a : cur + (row - mv.back) * grid.width + (part.low + mv.down - mv.up) + j ≡ cur + (row - mv.back) * grid.width + c = omega arith in
         let x = held_in_lem ws (cur + (row - mv.back) * grid.width) (get_or lows (row - mv.back) 0) (get_or highs (row - mv.back) 0) c (omega (arith, o.from_low)) (omega (arith, o.to_high)) in
         rw a (bounded_room (cell_at ws (cur + (row - mv.back) * grid.width + c)) r.top r.unit mv.gain mv.digit
-        (subst (Bounded r.top r.unit) x (r.small (row - mv.back) c i w)) r.gain-fits r.digit-fits)
+        (subst (Bounded r.top r.unit) x (r.small (row - mv.back) c i w)) r.gain_fits r.digit_fits)
 
     pub move_keys : {ws' : List ℕ} → Filled ws ws' (next + row * grid.width + part.low) (part.high - part.low)
         (offered_row ws (cur + (row - mv.back) * grid.width + (part.low + mv.down - mv.up)) (next + row * grid.width + part.low) mv.gain mv.digit)

@@ -127,14 +127,14 @@ module _ {ws ws' : List ℕ} (lows highs : List ℕ) (grid : Grid) {cur : ℕ} (
     top = r.top;
     unit = r.unit;
     small = λ row col l h. rw (held_same row col l h) (r.small row col l h);
-    gain_fits = r.gain-fits;
-    digit-fits = r.digit-fits;
+    gain_fits = r.gain_fits;
+    digit_fits = r.digit_fits;
     ascending = r.ascending;
   }
 
 pub move_room : {ws lows highs : List ℕ} {grid : Grid} {cur : ℕ} {load : LoadMoves} (n : ℕ) → n < load.count → LoadRoom ws lows highs grid cur load
     → MoveRoom ws lows highs grid cur (move_of load n).gain (move_of load n).digit
-move_room n l r = record { top = r.top; unit = r.unit; small = r.small; gain_fits = r.gain-fits n l; digit-fits = r.digit-fits n l }
+move_room n l r = record { top = r.top; unit = r.unit; small = r.small; gain_fits = r.gain_fits n l; digit_fits = r.digit_fits n l }
 
 -- what fills a row of the next layer keeps the current one
 pub keys_same : {ws ws' : List ℕ} {cur next : ℕ} (grid : Grid) (row : ℕ) {f : ℕ → Option Key} → GridFits grid → Rows ws cur next grid.cells → row < grid.rows

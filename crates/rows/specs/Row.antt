@@ -55,7 +55,7 @@ pub record MoveRoom (ws lows highs : List ℕ) (grid : Grid) (cur gain digit : �
   pub unit : ℕ
   pub small : (row col : ℕ) → row < grid.rows → col < grid.width → Bounded top unit (held ws lows highs cur grid.width row col)
   pub gain_fits : top + 1 + gain < 2 ^ 64
-  pub digit-fits : unit + digit ≤ 2 ^ 64
+  pub digit_fits : unit + digit ≤ 2 ^ 64
 
 -- each cell of the current layer has room for each setting's gain and digit: worths are at most `top`, and codes below `unit`. The digits ascend
 -- by at least `unit`
@@ -64,7 +64,7 @@ pub record LoadRoom (ws lows highs : List ℕ) (grid : Grid) (cur : ℕ) (load :
   pub unit : ℕ
   pub small : (row col : ℕ) → row < grid.rows → col < grid.width → Bounded top unit (held ws lows highs cur grid.width row col)
   pub gain_fits : (n : ℕ) → n < load.count → top + 1 + (move_of load n).gain < 2 ^ 64
-  pub digit-fits : (n : ℕ) → n < load.count → unit + (move_of load n).digit ≤ 2 ^ 64
+  pub digit_fits : (n : ℕ) → n < load.count → unit + (move_of load n).digit ≤ 2 ^ 64
   pub ascending : (m n : ℕ) → m < n → n < load.count → (move_of load m).digit + unit ≤ (move_of load n).digit
 
 -- where a setting's pass over its part of a row begins and ends
@@ -73,8 +73,8 @@ pub record Ends (grid : Grid) (row : ℕ) (mv : SettingMove) (part : Stretch) : 
   pub shift_in : mv.up ≤ part.low + mv.down
   pub source_in : part.low + mv.down - mv.up + (part.high - part.low) ≤ grid.width
   pub target_in : part.high ≤ grid.width
-  pub source-end : (row - mv.back) * grid.width + grid.width ≤ grid.cells
-  pub target-end : row * grid.width + grid.width ≤ grid.cells
+  pub source_end : (row - mv.back) * grid.width + grid.width ≤ grid.cells
+  pub target_end : row * grid.width + grid.width ≤ grid.cells
 
 -- ---- what the functions make
 

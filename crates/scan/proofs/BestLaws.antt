@@ -141,11 +141,11 @@ module _ (best : Cell) {c d : Cell} (e : c ≡ d) {r : Bool} (b : Better best c 
 
   module _ (t : ℕ → Bool) where
     pub best-kept : r ≡ false → key_of best ≡ join (key_of best) (passing t (key_of d))
-    best-kept z = not_taken t (key_of best) (key_of d) (ap (λ x. join (key_of best) (key_of x)) (sym e) ∙ b.no-better z)
+    best-kept z = not_taken t (key_of best) (key_of d) (ap (λ x. join (key_of best) (key_of x)) (sym e) ∙ b.no_better z)
 
     module _ {p : Bool} (h : p ≡ t c.code) where
       pub best-taken : r ≡ true → p ≡ true → key_of c ≡ join (key_of best) (passing t (key_of d))
-      best-taken z k = sym (b.yes-better z) ∙ ap (join (key_of best)) (sym (passed t c h k)) ∙ ap (λ x. join (key_of best) (passing t (key_of x))) e
+      best-taken z k = sym (b.yes_better z) ∙ ap (join (key_of best)) (sym (passed t c h k)) ∙ ap (λ x. join (key_of best) (passing t (key_of x))) e
 
       pub best-refused : p ≡ false → key_of best ≡ join (key_of best) (passing t (key_of d))
       best-refused k = sym (ap (join (key_of best)) (ap (λ x. passing t (key_of x)) (sym e) ∙ not_passed t c h k) ∙ join-none (key_of best))

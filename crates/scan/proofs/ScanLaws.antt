@@ -95,7 +95,7 @@ module _ {grid : Grid} {n : ℕ} {moves : List LoadMoves} (m : Modelled grid n m
   pub last_cell : (row col : ℕ) → row < grid.rows → col < grid.width
       → held ws lows highs cur grid.width row col ≡ cell_best m.slots m.loads (row * grid.width + col)
   last_cell row col l k =
-      layer.cell row col l k ∙ ap (λ ls. cell_best m.slots ls (row * grid.width + col)) (take_all n m.loads (omega (arith, m.loads-are)))
+      layer.cell row col l k ∙ ap (λ ls. cell_best m.slots ls (row * grid.width + col)) (take_all n m.loads (omega (arith, m.loads_are)))
 
   -- the best of the cells that pass a test, by their numbers
   layer-cells : (t : CellTest) → best_of_layer t ws lows highs grid cur
@@ -110,7 +110,7 @@ module _ {grid : Grid} {n : ℕ} {moves : List LoadMoves} (m : Modelled grid n m
 
       each : (row col : ℕ) → row < grid.rows → col < grid.width → passing (t row col) (held ws lows highs cur grid.width row col) ≡ cell (row * grid.width + col)
       each row col l k =
-          let w : grid.width ≡ column_count m.slots = m.grid-is.width_is in
+          let w : grid.width ≡ column_count m.slots = m.grid_is.width_is in
           let i = row * grid.width + col in
           let row_is : row ≡ i / column_count m.slots = sym (ap (λ v. i / v) (sym w) ∙ digits_div row k) in
           let col_is : col ≡ i % column_count m.slots = sym (ap (λ v. i % v) (sym w) ∙ digits_mod row k) in

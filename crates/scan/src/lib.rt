@@ -1,4 +1,5 @@
 // The last step of the planner: the best cell of the last layer that passes a test.
+#![tactic(auto)]
 ghost use Rattle.std.specs.Prelude.{◌≡◌, ℕ, ◌+◌, ◌*◌, ◌<◌, ◌≤◌, length};
 ghost use Rattle.model.specs.Grid.{slots_of};
 ghost use Rattle.model.specs.Cells.{join, join_upto, passing};
@@ -13,7 +14,7 @@ use model::Book;
 use table::Cell;
 
 // The test that a cell of the last layer must pass.
-#[derive(Drop)]
+#[derive(Clone, Copy)]
 pub enum Test {
     // The plain planner's: every slot admits the cell's pairs.
     Admission,

@@ -66,7 +66,7 @@ grid =
     }
 
 each_slot : (t : ℕ) → t < 1 → SlotIs (get_or slots t no_slot) (entry_at grid t)
-each_slot zero l = record { step_is = refl; top-is = refl; width_is = refl; depth_is = refl }
+each_slot zero l = record { step_is = refl; top_is = refl; width_is = refl; depth_is = refl }
 each_slot (suc t) l = absurd (omega arith)
 
 kept-standing : SettingKept 1 standing
@@ -84,15 +84,15 @@ numbers (suc (suc zero)) l = refl
 numbers (suc (suc (suc n))) l = absurd (omega arith)
 
 each_setting : (n : ℕ) → n < 3 → MoveIs slots 0 (get_or settings n no_setting) (move_of load n)
-each_setting zero l = record { gain_is = refl; digit-is = refl; back_is = refl; shift_is = refl; actives_are = (refl, tt); up_fits = omega arith; down_fits = omega arith }
-each_setting (suc zero) l = record { gain_is = refl; digit-is = refl; back_is = refl; shift_is = refl; actives_are = (refl, tt); up_fits = omega arith; down_fits = omega arith }
-each_setting (suc (suc zero)) l = record { gain_is = refl; digit-is = refl; back_is = refl; shift_is = refl; actives_are = (refl, tt); up_fits = omega arith; down_fits = omega arith }
+each_setting zero l = record { gain_is = refl; digit_is = refl; back_is = refl; shift_is = refl; actives_are = (refl, tt); up_fits = omega arith; down_fits = omega arith }
+each_setting (suc zero) l = record { gain_is = refl; digit_is = refl; back_is = refl; shift_is = refl; actives_are = (refl, tt); up_fits = omega arith; down_fits = omega arith }
+each_setting (suc (suc zero)) l = record { gain_is = refl; digit_is = refl; back_is = refl; shift_is = refl; actives_are = (refl, tt); up_fits = omega arith; down_fits = omega arith }
 each_setting (suc (suc (suc n))) l = absurd (omega arith)
 
 each_load : (k : ℕ) → k < 1 → LoadIs slots k (get_or (settings ∷ []) k []) (moves_of (load ∷ []) k)
 each_load zero l =
     record {
-      count-is = refl;
+      count_is = refl;
       count_fits = omega arith;
       ascending = λ m n h k. let i : m < 3 = omega arith in omega (arith, numbers m i, numbers n k);
       each = each_setting;
@@ -108,7 +108,7 @@ example =
       ready =
           record {
             for = ((omega arith, refl, refl), tt);
-            some-ratio = omega arith;
+            some_ratio = omega arith;
             few = omega arith;
             keeps = ((kept-standing, (kept-option 1 first (omega arith), (kept-option 2 second (omega arith), tt))), tt);
           };

@@ -71,21 +71,21 @@ count_rows_lem (suc n) width f g h =
 
 module _ {grid : Grid} {n : ℕ} {moves : List LoadMoves} (m : Modelled grid n moves) where
   pub area : grid.rows * grid.width ≡ cell_count m.slots
-  area = ap₂ ◌*◌ m.grid-is.rows_are m.grid-is.width_is ∙ cells-area m.slots
+  area = ap₂ ◌*◌ m.grid_is.rows_are m.grid_is.width_is ∙ cells-area m.slots
 
   pub rows_one : 1 ≤ grid.rows
-  rows_one = omega (arith, rows_some m.slots, m.grid-is.rows_are)
+  rows_one = omega (arith, rows_some m.slots, m.grid_is.rows_are)
 
   pub width_in : grid.width ≤ grid.cells
-  width_in = omega (arith, mul-le-mul_right grid.width rows_one, area, m.grid-is.cells_are)
+  width_in = omega (arith, mul-le-mul_right grid.width rows_one, area, m.grid_is.cells_are)
 
   pub grid_fits : GridFits grid
   grid_fits =
-      let g = m.grid-is in
-      let few = rows_few m.r n m.ready.some-ratio m.some-load m.slots m.ready.for m.some-slot (omega (arith, g.cells_are, g.cells_fit)) in
+      let g = m.grid_is in
+      let few = rows_few m.r n m.ready.some_ratio m.some_load m.slots m.ready.for m.some_slot (omega (arith, g.cells_are, g.cells_fit)) in
       record {
-        slots_fit = omega (arith, g.slots-are, g.slots-fit);
-        tops_fit = λ t l. omega (arith, (g.each t (omega (arith, g.slots-are))).top-is);
+        slots_fit = omega (arith, g.slots_are, g.slots_fit);
+        tops_fit = λ t l. omega (arith, (g.each t (omega (arith, g.slots_are))).top_is);
         area = area ∙ sym g.cells_are;
         rows_fit = omega (arith, g.rows_are);
         width_fits = omega (arith, width_in, g.cells_fit);
@@ -95,8 +95,8 @@ module _ {grid : Grid} {n : ℕ} {moves : List LoadMoves} (m : Modelled grid n m
   tried-is : {k : ℕ} {v : Setting} {mv : SettingMove} → MoveIs m.slots k v mv → (row : ℕ) → tried grid mv row ≡ covers_all m.slots (setting_grids m.slots v) row
   unfolding tried
   tried-is {k} {v} {mv} x row =
-      ap (λ j. covers_from grid.tops mv.active 0 j row) m.grid-is.slots-are
-      ∙ covers_is grid.tops mv.active m.slots v 0 row (λ i l. ap (λ k. get_or grid.tops k 0) (zero-add i) ∙ (m.grid-is.each i l).top-is) x.actives-are
+      ap (λ j. covers_from grid.tops mv.active 0 j row) m.grid_is.slots_are
+      ∙ covers_is grid.tops mv.active m.slots v 0 row (λ i l. ap (λ k. get_or grid.tops k 0) (zero-add i) ∙ (m.grid_is.each i l).top_is) x.actives_are
 
   move_fits : {k : ℕ} {v : Setting} {mv : SettingMove} → MoveIs m.slots k v mv → MoveFits grid mv
   move_fits {k} {v} x = record {
@@ -109,8 +109,8 @@ module _ {grid : Grid} {n : ℕ} {moves : List LoadMoves} (m : Modelled grid n m
   load_fits k l =
       let x = m.each k l in
       record {
-        count_fits = omega (arith, x.count-is, x.count_fits);
-        each = λ i h. move_fits (x.each i (omega (arith, x.count-is)));
+        count_fits = omega (arith, x.count_is, x.count_fits);
+        each = λ i h. move_fits (x.each i (omega (arith, x.count_is)));
       }
 
   -- ---- room for load k + 1
@@ -118,34 +118,34 @@ module _ {grid : Grid} {n : ℕ} {moves : List LoadMoves} (m : Modelled grid n m
   small_setting : (k i : ℕ) → k < n → i < length (get_or m.loads k []) → SettingBelow 65535 (get_or (get_or m.loads k []) i no_setting)
   small_setting k i l h =
       every_at (SettingBelow 65535) (get_or m.loads k []) no_setting
-      (every_at (Every (SettingBelow 65535)) m.loads [] m.small k (omega (arith, m.loads-are))) i h
+      (every_at (Every (SettingBelow 65535)) m.loads [] m.small k (omega (arith, m.loads_are))) i h
 
   pub load_room : {ws lows highs : List ℕ} {k cur : ℕ} → k < n → LayerIs ws lows highs grid n moves m k cur → LoadRoom ws lows highs grid cur (moves_of moves k)
   load_room {ws} {lows} {highs} {k} {cur} l layer = record {
     top = 65535 * k;
     unit = 4 ^ k;
     small = λ row col a b. subst (Bounded (65535 * k) (4 ^ k)) (sym (layer.cell row col a b)) (bounded (row * grid.width + col));
-    gain_fits = λ i h. let y = small_setting k i l (omega (arith, x.count-is)) in omega (arith, y.0, (x.each i (omega (arith, x.count-is))).gain-is, m.loads-fit);
-    digit-fits = λ i h.
-        let y = small_setting k i l (omega (arith, x.count-is)) in
-        omega (arith, mul-le-mul_right (4 ^ k) y.1, (x.each i (omega (arith, x.count-is))).digit-is, pow-succ' 4 k, powers);
+    gain_fits = λ i h. let y = small_setting k i l (omega (arith, x.count_is)) in omega (arith, y.0, (x.each i (omega (arith, x.count_is))).gain_is, m.loads_fit);
+    digit_fits = λ i h.
+        let y = small_setting k i l (omega (arith, x.count_is)) in
+        omega (arith, mul-le-mul_right (4 ^ k) y.1, (x.each i (omega (arith, x.count_is))).digit_is, pow-succ' 4 k, powers);
     ascending = λ i j h a.
-        let o = x.ascending i j h (omega (arith, x.count-is)) in
-        omega (arith, mul-le-mul_right (4 ^ k) o, (x.each i (omega (arith, x.count-is))).digit-is, (x.each j (omega (arith, x.count-is))).digit-is);
+        let o = x.ascending i j h (omega (arith, x.count_is)) in
+        omega (arith, mul-le-mul_right (4 ^ k) o, (x.each i (omega (arith, x.count_is))).digit_is, (x.each j (omega (arith, x.count_is))).digit_is);
   }
     where
       x : LoadIs m.slots k (get_or m.loads k []) (moves_of moves k)
       x = m.each k l
 
       long : length (take k m.loads) ≡ k
-      long = length-take-le k m.loads (omega (arith, m.loads-are))
+      long = length-take-le k m.loads (omega (arith, m.loads_are))
 
       bounded : (i : ℕ) → Bounded (65535 * k) (4 ^ k) (cell_best m.slots (take k m.loads) i)
       bounded i = subst (λ j. Bounded (65535 * j) (4 ^ j) (cell_best m.slots (take k m.loads) i)) long
           (cell_bounded 65535 m.slots (take k m.loads) (every_take (Every (SettingBelow 65535)) k m.loads m.small) i)
 
       powers : 4 ^ suc k ≤ 4 ^ most_loads
-      powers = let few : suc k ≤ most_loads = omega (arith, m.loads-fit) in let four : 0 < 4 = omega arith in pow-le-pow_right four few
+      powers = let few : suc k ≤ most_loads = omega (arith, m.loads_fit) in let four : 0 < 4 = omega arith in pow-le-pow_right four few
 
   -- ---- what a setting offers
 
@@ -177,9 +177,9 @@ module _ {grid : Grid} {n : ℕ} {moves : List LoadMoves} (m : Modelled grid n m
         (λ e. layer.cell (row - mv.back) (col + mv.down - mv.up) (omega arith)
         (source_column grid mv row col e)
         ∙ ap (cell_best m.slots (take k m.loads))
-        (λ i. (row - x.back_is i) * m.grid-is.width_is i + shift_column x i))
+        (λ i. (row - x.back_is i) * m.grid_is.width_is i + shift_column x i))
         ∙ ap (λ t. cond t (cell_best m.slots (take k m.loads) (source_cell m.slots v row col)) none)
-        (λ i. tried-is x row i && (shift_test x i && ltb (shift_column x i) (m.grid-is.width_is i)))
+        (λ i. tried-is x row i && (shift_test x i && ltb (shift_column x i) (m.grid_is.width_is i)))
 
     offer_is : (i : ℕ) → i < length (get_or m.loads k [])
         → offer_of ws lows highs grid cur (moves_of moves k) row col i
@@ -189,18 +189,18 @@ module _ {grid : Grid} {n : ℕ} {moves : List LoadMoves} (m : Modelled grid n m
     unfolding offer_of
     offer_is i h =
         let x = (m.each k l).each i h in
-        ap₂ (λ g d. shift? g d (source_of ws lows highs grid cur (move_of (moves_of moves k) i) row col)) x.gain-is x.digit-is
+        ap₂ (λ g d. shift? g d (source_of ws lows highs grid cur (move_of (moves_of moves k) i) row col)) x.gain_is x.digit_is
         ∙ ap (step k (get_or (get_or m.loads k []) i no_setting)) (source_is x)
 
     -- the cell after load k + 1
     pub cell-is : col < grid.width → join_upto (moves_of moves k).count (offer_of ws lows highs grid cur (moves_of moves k) row col)
         ≡ cell_best m.slots (take (suc k) m.loads) (row * grid.width + col)
     cell-is b =
-        ap (λ c. join_upto c (offer_of ws lows highs grid cur (moves_of moves k) row col)) (m.each k l).count-is
+        ap (λ c. join_upto c (offer_of ws lows highs grid cur (moves_of moves k) row col)) (m.each k l).count_is
         ∙ join-same (length vs) (offer_of ws lows highs grid cur (moves_of moves k) row col) (λ i. step k (get_or vs i no_setting) (old (get_or vs i no_setting))) offer_is
         ∙ sym (over-upto k no_setting old vs)
-        ∙ sym (rows_step m.r n m.slots m.loads m.ready k (omega (arith, m.loads-are)) row col (omega (arith, m.grid-is.width_is)))
-        ∙ ap (λ w. cell_best m.slots (take (suc k) m.loads) (row * w + col)) (sym m.grid-is.width_is)
+        ∙ sym (rows_step m.r n m.slots m.loads m.ready k (omega (arith, m.loads_are)) row col (omega (arith, m.grid_is.width_is)))
+        ∙ ap (λ w. cell_best m.slots (take (suc k) m.loads) (row * w + col)) (sym m.grid_is.width_is)
       where
         vs : Settings
         vs = get_or m.loads k []

@@ -74,9 +74,9 @@ module _ {grid : Grid} {n : ℕ} {moves : List LoadMoves} (m : Modelled grid n m
   origin_in =
       omega (
         arith,
-        m.grid-is.origin-is,
-        m.grid-is.width_is,
-        column_below m.slots (grids_of m.slots []) (within_all m.r n m.ready.some-ratio m.slots m.ready.for [] (omega arith) tt (range_none m.slots)),
+        m.grid_is.origin_is,
+        m.grid_is.width_is,
+        column_below m.slots (grids_of m.slots []) (within_all m.r n m.ready.some_ratio m.slots m.ready.for [] (omega arith) tt (range_none m.slots)),
       )
 
   pub origin_room : (ws : List ℕ) → 4 * grid.cells ≤ length ws → 2 * grid.origin + 1 < length ws
@@ -85,7 +85,7 @@ module _ {grid : Grid} {n : ℕ} {moves : List LoadMoves} (m : Modelled grid n m
   index_none : index_of m.slots (grids_of m.slots []) ≡ grid.origin
   index_none =
       ap (λ x. x * column_count m.slots + column_index m.slots (grids_of m.slots [])) (row_none m.slots)
-      ∙ (omega (arith, m.grid-is.origin-is))
+      ∙ (omega (arith, m.grid_is.origin_is))
 
   first_cell_lem : (i : ℕ) → cell_best m.slots [] i ≡ first_key grid.origin i
   first_cell_lem i = cells-none m.slots i ∙ ap (λ j. first_key j i) index_none
@@ -94,10 +94,10 @@ module _ {grid : Grid} {n : ℕ} {moves : List LoadMoves} (m : Modelled grid n m
   module _ (ws ws₀ lows highs : List ℕ) (put : ws ≡ put_at ws₀ grid.origin first_cell) (room : 2 * grid.origin + 1 < length ws₀)
       (low_first : get_or lows 0 0 ≡ grid.origin) (high-first : get_or highs 0 0 ≡ grid.origin + 1) (blank : EmptyFrom lows highs 1) where
     low_rest : (row : ℕ) → get_or lows (suc row) 0 ≡ 0
-    low_rest row = blank.no-low (suc row) (omega arith)
+    low_rest row = blank.no_low (suc row) (omega arith)
 
     high_rest : (row : ℕ) → get_or highs (suc row) 0 ≡ 0
-    high_rest row = blank.no-high (suc row) (omega arith)
+    high_rest row = blank.no_high (suc row) (omega arith)
 
     first_row : (col : ℕ) → held ws lows highs 0 grid.width 0 col ≡ first_key grid.origin (0 * grid.width + col)
     unfolding held
@@ -149,14 +149,14 @@ module _ {grid : Grid} {n : ℕ} {moves : List LoadMoves} (m : Modelled grid n m
       places = record {
         same_length = refl;
         side = inl refl;
-        low-length = a;
-        high-length = b;
+        low_length = a;
+        high_length = b;
         low_fits = first-low;
         high_fits = first-high;
         past = λ x h. refl;
       };
       layer = layer-first;
-      reached-is = λ _. sym (layer-count m layer-first ∙ sym (reached-cells m.r n m.slots [] (ready-take m.r n m.slots m.loads 0 m.ready)) ∙ reached-none m.slots);
+      reached_is = λ _. sym (layer-count m layer-first ∙ sym (reached-cells m.r n m.slots [] (ready-take m.r n m.slots m.loads 0 m.ready)) ∙ reached-none m.slots);
       trials_are = refl;
     }
 
@@ -181,13 +181,13 @@ module _ {grid : Grid} {n : ℕ} {moves : List LoadMoves} (m : Modelled grid n m
 
     pub run_tries : (reached ≤ most_cells) × ((moves_of moves k).count ≤ 4)
     run_tries = (
-      omega (arith, run.reached-is l, rows_count_le grid.rows grid.width (held ws₁ lows highs cur grid.width), (grid_fits m).area, m.grid-is.cells_fit),
+      omega (arith, run.reached_is l, rows_count_le grid.rows grid.width (held ws₁ lows highs cur grid.width), (grid_fits m).area, m.grid_is.cells_fit),
       (load_fits m k l).count_fits,
     )
 
     pub run_trials : {t : ℕ} → t ≡ reached * (moves_of moves k).count → trials + t ≡ trials_of m (suc k)
     run_trials e =
-        ap₂ ◌+◌ run.trials-are (e ∙ ap₂ ◌*◌ (run.reached-is l ∙ layer-count m run.layer) (m.each k l).count-is)
+        ap₂ ◌+◌ run.trials_are (e ∙ ap₂ ◌*◌ (run.reached_is l ∙ layer-count m run.layer) (m.each k l).count_is)
         ∙ sym (trials-step m.r n m.slots m.loads m.ready k)
 
     pub run_more : {ws₂ lows' highs' : List ℕ} {t reached' : ℕ} → t ≡ reached * (moves_of moves k).count
@@ -198,14 +198,14 @@ module _ {grid : Grid} {n : ℕ} {moves : List LoadMoves} (m : Modelled grid n m
       places = record {
         same_length = made.same_length ∙ run.places.same_length;
         side = ⊎_elim (λ (e : cur ≡ 0). inr (omega arith)) (λ (e : cur ≡ grid.cells). inl (omega arith)) run.places.side;
-        low-length = made.low-length;
-        high-length = made.high-length;
+        low_length = made.low_length;
+        high_length = made.high_length;
         low_fits = made.low_fits;
         high_fits = made.high_fits;
         past = λ x h. made.outside x (λ y a b. omega (arith, run_cur, (grid_fits m).area)) ∙ run.places.past x h;
       };
       layer = layer_next m l run.layer made;
-      reached-is = c;
+      reached_is = c;
       trials_are = run_trials e ∙ ap (trials_of m) (sym (add-one k));
     }
 
@@ -235,7 +235,7 @@ module _ {grid : Grid} {n : ℕ} {moves : List LoadMoves} (m : Modelled grid n m
       → Searched ws₁ lows highs grid n moves m budget cur trials
   ended {ws} {ws₁} {lows} {highs} {k} {cur} {reached} {trials} budget h o run =
       let q : Run ws ws₁ lows highs grid n moves m n cur reached trials = subst (λ (j : ℕ). Run ws ws₁ lows highs grid n moves m j cur reached trials) (le_antisymm h o) run in
-      record { within = λ a. (q.trials-are, q.layer); over = λ a. omega (arith, q.trials-are) }
+      record { within = λ a. (q.trials_are, q.layer); over = λ a. omega (arith, q.trials_are) }
 
 -- the stretches of the first layer: a number at row 0, and 0 at every other
 zeros : (k i : ℕ) → ◌≡◌ {A = ℕ} (get_or (replicate k 0) i 0) 0
@@ -264,8 +264,8 @@ pub places_from : {ws ws₀ ws₁ lows highs : List ℕ} {grid : Grid} {cur : �
 places_from {ws} {ws₀} origin h e p = record {
   same_length = p.same_length ∙ ap length e ∙ length_put ws₀ origin first_cell;
   side = p.side;
-  low-length = p.low-length;
-  high-length = p.high-length;
+  low_length = p.low_length;
+  high_length = p.high_length;
   low_fits = p.low_fits;
   high_fits = p.high_fits;
   past = λ x k. p.past x k ∙ ap (λ ws. cell_at ws x) e ∙ get_other ws₀ origin x first_cell (λ q. omega arith);

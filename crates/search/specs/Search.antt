@@ -47,8 +47,8 @@ pub record LayerIs (ws lows highs : List ℕ) (grid : Grid) (n : ℕ) (moves : L
 pub record Places (ws ws' lows highs : List ℕ) (grid : Grid) (cur : ℕ) : Type 0 where
   pub same_length : length ws' ≡ length ws
   pub side : (cur ≡ 0) ⊎ (cur ≡ grid.cells)
-  pub low-length : length lows ≡ most_rows
-  pub high-length : length highs ≡ most_rows
+  pub low_length : length lows ≡ most_rows
+  pub high_length : length highs ≡ most_rows
   pub low_fits : (row : ℕ) → row < grid.rows → get_or lows row 0 ≤ grid.width
   pub high_fits : (row : ℕ) → row < grid.rows → get_or highs row 0 ≤ grid.width
   pub past : (x : ℕ) → 2 * grid.cells ≤ x → cell_at ws' x ≡ cell_at ws x
@@ -61,7 +61,7 @@ trials_of m k = trials_upto m.slots m.loads k
 pub record Run (ws ws' lows highs : List ℕ) (grid : Grid) (n : ℕ) (moves : List LoadMoves) (m : Modelled grid n moves) (k cur reached trials : ℕ) : Type 0 where
   pub places : Places ws ws' lows highs grid cur
   pub layer : LayerIs ws' lows highs grid n moves m k cur
-  pub reached-is : k < n → reached ≡ count_rows grid.rows grid.width (held ws' lows highs cur grid.width)
+  pub reached_is : k < n → reached ≡ count_rows grid.rows grid.width (held ws' lows highs cur grid.width)
   pub trials_are : trials ≡ trials_of m k
 
 -- what the search of n loads gives: the trials, if they are within the budget, and then the last layer; else that they are not

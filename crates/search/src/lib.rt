@@ -1,4 +1,5 @@
 // The search: the passes of all loads, the layers changing places after each, and the trials counted on the way.
+#![tactic(auto)]
 ghost use Rattle.std.specs.Prelude.{◌≡◌, ◌+◌, ◌*◌, ◌<◌, ◌≤◌, length, drop};
 ghost use Rattle.model.specs.Bounds.{most_settings, most_cells};
 ghost use Rattle.table.specs.Table.{put_at};
@@ -27,7 +28,7 @@ fn tries(reached: usize, count: usize) -> usize
 }
 
 // What the search leaves: the trials, which layer is the last one (0 or the number of cells), and its stretches.
-#[derive(Drop)]
+#[derive(Clone, Copy)]
 pub struct Ran {
     pub trials: usize,
     pub cur: usize,

@@ -50,8 +50,8 @@ module _ (book : Book) (h : Held book) (picks : List ℕ) (picked : Picked (prob
   chosen : IsChoice b.loads c
   chosen = picked-choice b picks (held-valid book h) picked
 
-  count-is : length c ≡ book.count
-  count-is = choice-length b picks (held-valid book h) picked ∙ sym (held-count book h)
+  count_is : length c ≡ book.count
+  count_is = choice-length b picks (held-valid book h) picked ∙ sym (held-count book h)
 
   pub reactive_room : (sums : Sums) → sums ≡ sums_value c → (s : ℕ) → s < 4 → get_or sums.reactives s 0 ≤ 2 ^ 31
   reactive_room sums e s l =
@@ -63,17 +63,17 @@ module _ (book : Book) (h : Held book) (picks : List ℕ) (picked : Picked (prob
   slots-lines sums e =
       ap (slots_bytes book.count sums.actives sums.reactives book.limits) (held-slots book h)
       ∙ slots_are b c book.count sums.actives sums.reactives book.limits
-      (λ s l. active-is s (four s l)) (λ s l. reactive-is s (four s l)) (λ s l. held-limit book h s (four s l))
+      (λ s l. active_is s (four s l)) (λ s l. reactive_is s (four s l)) (λ s l. held-limit book h s (four s l))
     where
       four : (s : ℕ) → s < length b.limits → s < 4
       four s l = omega (arith, held-slots book h, held_four book h)
 
-      active-is : (s : ℕ) → s < 4 → get_or sums.actives s 0 ≡ (sum_in s c).p
-      active-is s l = ap (λ (x : Sums). get_or x.actives s 0) e ∙ sums-active c s l
+      active_is : (s : ℕ) → s < 4 → get_or sums.actives s 0 ≡ (sum_in s c).p
+      active_is s l = ap (λ (x : Sums). get_or x.actives s 0) e ∙ sums-active c s l
 
-      reactive-is : (s : ℕ) → s < 4 → sub_ℕ (get_or sums.reactives s 0) (32768 * book.count) ≡ (sum_in s c).q
-      reactive-is s l =
-          ap₂ (λ x n. sub_ℕ x (32768 * n)) (ap (λ (x : Sums). get_or x.reactives s 0) e ∙ sums-reactive c s l) (sym count-is)
+      reactive_is : (s : ℕ) → s < 4 → sub_ℕ (get_or sums.reactives s 0) (32768 * book.count) ≡ (sum_in s c).q
+      reactive_is s l =
+          ap₂ (λ x n. sub_ℕ x (32768 * n)) (ap (λ (x : Sums). get_or x.reactives s 0) e ∙ sums-reactive c s l) (sym count_is)
           ∙ raised_less (length c) (sum_in s c).q (sum-small c (choice-small b (held-valid book h) c chosen) s).reactive
 
   pub bytes-length : (trials : ℕ) → length (sheet_bytes b c trials) ≡ sheet_length b
@@ -89,8 +89,8 @@ module _ (book : Book) (h : Held book) (picks : List ℕ) (picked : Picked (prob
   sheet-left sums worth trials p l l₁ l₂ e f first rest q room =
       let first-line : first_bytes picks book.count worth trials ≡ first_line c trials
       = ap (λ v. first_bytes picks book.count v trials) f
-      ∙ first-is c picks book.count count-is (λ k i. number_at b picks (held-valid book h) picked k (omega (arith, held-count book h))) trials in
+      ∙ first-is c picks book.count count_is (λ k i. number_at b picks (held-valid book h) picked k (omega (arith, held-count book h))) trials in
       then_written l l₁ l₂ (first_line c trials) (slot_lines (sums_and_limits b c)) p (first ∙ ap (written l 0) first-line)
       (rest ∙ ap (written (take (length l₁ - p) (drop p l₁)) 0) (slots-lines sums e))
-      (omega (arith, length-first c trials, count-is)) (omega (arith, length_slot_lines b c, held-count book h))
+      (omega (arith, length-first c trials, count_is)) (omega (arith, length_slot_lines b c, held-count book h))
       ∙ written_start l (sheet_bytes b c trials)

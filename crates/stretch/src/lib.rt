@@ -1,4 +1,5 @@
 // What a setting does to a cell, and how far a load's settings reach: the stretch of columns of each row, and the rows.
+#![tactic(auto)]
 ghost use Rattle.std.specs.Prelude.{◌≡◌, ℕ, ◌+◌, ◌<◌, ◌≤◌, get_or};
 ghost use Rattle.model.specs.Bounds.{most_slots, most_settings, most_cells};
 ghost use Rattle.stretch.specs.Stretch.{covers_from, GridFits, StretchesFit, MoveFits, LoadFits, Clipped, Part, Joined, Spans, Reaches};
@@ -8,7 +9,7 @@ use model::{Book, Load};
 
 // What a setting does to a cell: the worth it adds, its digit in the code, how many rows back its source row is, how far the columns
 // move up and down, and its active coordinates.
-#[derive(Drop)]
+#[derive(Clone, Copy)]
 pub struct SettingMove {
     pub gain: u64,
     pub digit: u64,
@@ -19,14 +20,14 @@ pub struct SettingMove {
 }
 
 // What the settings of a load do, by ascending number.
-#[derive(Drop)]
+#[derive(Clone, Copy)]
 pub struct LoadMoves {
     pub count: usize,
     pub moves: [SettingMove; Load::SETTINGS],
 }
 
 // The columns from `low` to before `high`; none where low is not below high.
-#[derive(Drop)]
+#[derive(Clone, Copy)]
 pub struct Stretch {
     pub low: usize,
     pub high: usize,

@@ -100,7 +100,7 @@ module _ (b : Problem) (picks : List ℕ) (valid : ValidBook b) (picked : Picked
   picks_can_add : (k : ℕ) → k < length b.loads → CanAdd (sums_value (picks_upto b picks k)) (load_value (get_or b.loads k [])) (get_or picks k 0)
   picks_can_add k l =
       can_add (picks_upto b picks k) (get_or b.loads k []) (get_or picks k 0) (picks_small k)
-      (omega (arith, length-upto (pick_of b picks) k, valid.loads-few)) (loads-small b valid k) (pick_few k l)
+      (omega (arith, length-upto (pick_of b picks) k, valid.loads_few)) (loads-small b valid k) (pick_few k l)
 
   sums-more : (k : ℕ) → k < length b.loads
       → added (sums_value (picks_upto b picks k)) (load_value (get_or b.loads k [])) (get_or picks k 0) ≡ sums_value (picks_upto b picks (k + 1))
@@ -179,7 +179,7 @@ module _ (book : Book) (h : Held book) {code : ℕ} (coded : IsCode (problem_of 
   all_digits = ap (λ n. take n picks) (sym (held-count book h)) ∙ digits ∙ ap₂ decode (held-count book h) coded.is
 
   pub held-code-picked : Picked (problem_of book) picks
-  held-code-picked = code-picked (problem_of book) (held-valid book h) coded.choice coded.of-book picks all_digits
+  held-code-picked = code-picked (problem_of book) (held-valid book h) coded.choice coded.of_book picks all_digits
 
   pub held-code-choice : choice_of (problem_of book) picks ≡ coded.choice
-  held-code-choice = code-choice (problem_of book) (held-valid book h) coded.choice coded.of-book picks all_digits
+  held-code-choice = code-choice (problem_of book) (held-valid book h) coded.choice coded.of_book picks all_digits

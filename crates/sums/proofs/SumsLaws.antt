@@ -86,8 +86,8 @@ none_at : (s : ℕ) → s < 4 → get_or no_powers (4 * 0 + s) 0 ≡ 0
 none_at s h = get_or-replicate 16 (4 * 0 + s) 0 0 (omega arith)
 
 module _ {entry : ℕ → Power → ℕ} {vs : Settings} {powers : List ℕ} (l : PowersOf entry vs powers) (c : Choice) (small : Every SettingSmall c) where
-  powers-small : Small 16 powers
-  powers-small k h =
+  powers_small : Small 16 powers
+  powers_small k h =
       let j = k / 4 in
       let s = k % 4 in
       let place : 4 * j + s ≡ k = omega arith in
@@ -97,7 +97,7 @@ module _ {entry : ℕ → Power → ℕ} {vs : Settings} {powers : List ℕ} (l 
   can_shift : (j : ℕ) (less : List ℕ) (i : ℕ) → length c ≤ most_loads → j < 4 → i < 4
       → ((s : ℕ) → s < 4 → get_or less (4 * i + s) 0 ≤ get_or (entries_of entry c) s 0) → CanShift (entries_of entry c) powers j less i
   can_shift j less i few place source counted =
-      record { sums-small = entries_small l.adds c small few; powers-small = powers-small; place = place; source = source; counted = counted }
+      record { sums_small = entries_small l.adds c small few; powers_small = powers_small; place = place; source = source; counted = counted }
 
   -- the array of c', whose entries and setting i of `less` are as much as those of c and setting j
   shifted_to : (j : ℕ) (less : List ℕ) (i : ℕ) (c' : Choice) → j < 4
@@ -156,9 +156,9 @@ reactives_of : (vs : Settings) → Every SettingSmall vs → PowersOf reactive_o
 reactives_of vs sized =
     record { adds = reactive_adds; small = sized; at = λ j s p h. load_reactive vs j s p h ∙ raised_one (power_in s (setting_of vs j)).q }
 
-pub sums-small : (c : Choice) → Every SettingSmall c → length c ≤ most_loads → SumsSmall (sums_value c)
+pub sums_small : (c : Choice) → Every SettingSmall c → length c ≤ most_loads → SumsSmall (sums_value c)
 unfolding sums_value
-sums-small c small few = record { active = entries_small active_adds c small few; reactive = entries_small reactive_adds c small few }
+sums_small c small few = record { active = entries_small active_adds c small few; reactive = entries_small reactive_adds c small few }
 
 -- one load more in front, in slot s
 module _ (v : Setting) (w : SettingSmall v) (c : Choice) (small : Every SettingSmall c) (s : ℕ) (four : s < 4) where
@@ -209,7 +209,7 @@ set-choice (vs ∷ loads) (u ∷ c) (suc k) v m h n = (m.0, set-choice loads c k
 module _ (b : Problem) (valid : ValidBook b) where
   module _ (c : Choice) (chosen : IsChoice b.loads c) where
     pub choice-sums : SumsSmall (sums_value c)
-    choice-sums = sums-small c (choice-small b valid c chosen) (choice-few b valid c chosen)
+    choice-sums = sums_small c (choice-small b valid c chosen) (choice-few b valid c chosen)
 
     -- load k + 1 has its least setting
     module _ (k : ℕ) (inside : k < length b.loads) (has : get_or c k no_setting ≡ setting_of (get_or b.loads k []) (least_of (get_or b.loads k []))) where

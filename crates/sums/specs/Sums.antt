@@ -53,8 +53,8 @@ pub record SumsSmall (v : Sums) : Type 0 where
 
 -- the sums count what is taken away
 pub record CanShift (sums powers : List ℕ) (c : ℕ) (less : List ℕ) (from : ℕ) : Type 0 where
-  pub sums-small : Small most_slots sums
-  pub powers-small : Small most_powers powers
+  pub sums_small : Small most_slots sums
+  pub powers_small : Small most_powers powers
   pub place : c < most_settings
   pub source : from < most_settings
   pub counted : (s : ℕ) → s < most_slots → get_or less (most_slots * from + s) 0 ≤ get_or sums s 0

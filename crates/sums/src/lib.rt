@@ -1,4 +1,5 @@
 // The true sums of a choice in each slot, its worth and its code, as running values; and the numbers of a code.
+#![tactic(auto)]
 ghost use Rattle.std.specs.Prelude.{◌≡◌, [], ◌≤◌, take};
 ghost use Rattle.model.specs.Bounds.{most_loads};
 ghost use Rattle.model.specs.Choice.{worth_of, code_of, decode};
@@ -8,7 +9,7 @@ ghost use Rattle.sums.specs.Sums.{sums_value, shifted, added, exchanged, CanShif
 use model::{Book, Load};
 
 // The sums in each slot: P, and Q + 32,768 for each load.
-#[derive(Drop)]
+#[derive(Clone, Copy)]
 pub struct Sums {
     pub actives: [u64; Book::SLOTS],
     pub reactives: [u64; Book::SLOTS],

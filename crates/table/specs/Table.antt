@@ -36,7 +36,7 @@ offered_at ws from to gain digit = put_at ws to (offered (cell_at ws to) (cell_a
 
 -- a reached cell has room for a setting's gain and digit; an empty cell needs none
 pub record Room (c : Cell) (gain digit : ℕ) : Type 0 where
-  pub worth-fits : 0 < c.worth → c.worth + gain < 2 ^ 64
+  pub worth_fits : 0 < c.worth → c.worth + gain < 2 ^ 64
   pub code_fits : 0 < c.worth → c.code + digit < 2 ^ 64
 
 -- the words ws' are ws with f 0, f 1, .. in the n cells from `at` on, and every other cell as it was

@@ -1,5 +1,6 @@
 // What the mill and the supply company see of a sheet: the worth and the running loads, and the slot lines, or refusals 13 and 11; the book's own
 // refusals come first.
+#![tactic(auto)]
 ghost use Rattle.std.specs.Prelude.{◌≡◌, suc, ◌+◌, ◌≤◌, ◌<◌, length};
 ghost use Rattle.model.specs.Answers.{Writes, in_room};
 ghost use Rattle.model.specs.Bounds.{most_loads};
@@ -13,7 +14,7 @@ ghost use Rattle.views.specs.MillLine.{load_bytes, loads_bytes, mill_bytes};
 use model::{Answer, Book, Refusal};
 
 // What was read of a book and a sheet: the answer of a refusal, or number 0, the book and the numbers of the sheet's choice.
-#[derive(Drop)]
+#[derive(Clone, Copy)]
 pub struct SheetReading {
     pub answer: Answer,
     pub book: Book,

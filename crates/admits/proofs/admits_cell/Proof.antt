@@ -21,7 +21,7 @@ abbrev decreases-loop : tie.decreases-loop
 decreases-loop row col count grid limits slots a₀ b₀ t₀ a b t = slots - t
 
 loop-holds : tie.Need-loop-init invariant-loop decreases-loop
-loop-holds c = (omega arith, omega (arith, c.requires.laid.is.slots-are, c.requires.laid.is.slots-fit), λ h. refl)
+loop-holds c = (omega arith, omega (arith, c.requires.laid.is.slots_are, c.requires.laid.is.slots_fit), λ h. refl)
 
 mul-top : tie.Need-overflow-mul-top invariant-loop decreases-loop
 mul-top c = search rules

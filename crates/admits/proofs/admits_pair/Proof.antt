@@ -32,7 +32,7 @@ add-result : tie.Need-overflow-add-result
 add-result c = omega (arith, sq_mono c.before.requires.active, sq_mono c.nearest.ensures.1)
 
 mul-result-3 : tie.Need-overflow-mul-result-3
-mul-result-3 c = omega (arith, sq_mono c.before.requires.limit-fits)
+mul-result-3 c = omega (arith, sq_mono c.before.requires.limit_fits)
 
 returns : tie.Need-returns
 returns c =

@@ -76,7 +76,7 @@ module _ (c : tie.After-slot-of invariant-loop decreases-loop) where
   deep =
       let s = c.before.before.before.before.before in
       let sound = slot_sound s.args.book s.requires (c.before.before.before.loop.t - 1) in-book in
-      omega (arith, slot_is.depth_is, slot_is.width_is, depth_less (get_or (slots_of (problem_of s.args.book)) (c.before.before.before.loop.t - 1) no_slot) sound.ratio-some)
+      omega (arith, slot_is.depth_is, slot_is.width_is, depth_less (get_or (slots_of (problem_of s.args.book)) (c.before.before.before.loop.t - 1) no_slot) sound.ratio_some)
 
   small : Small (before c) c.slot_of.result
   small =
@@ -84,9 +84,9 @@ module _ (c : tie.After-slot-of invariant-loop decreases-loop) where
       let l = c.before.before.before.loop in
       let slot = get_or (slots_of (problem_of s.args.book)) (l.t - 1) no_slot in
       let sound = slot_sound s.args.book s.requires (l.t - 1) in-book in
-      let sizes = sizes_small slot sound.limit-small sound.loads-few sound.ratio-some sound.ratio-few in
+      let sizes = sizes_small slot sound.limit_small sound.loads_few sound.ratio_some sound.ratio_few in
       products_small (slots_of (problem_of s.args.book)) l.t (before c) c.slot_of.result l.invariant.2 (omega (arith, leb-true l.cells _ c.before.if1.true))
-      (omega (arith, slot_is.top-is, sizes)) (omega (arith, slot_is.width_is, sizes)) deep
+      (omega (arith, slot_is.top_is, sizes)) (omega (arith, slot_is.width_is, sizes)) deep
 
 mul-steps : tie.Need-overflow-mul-steps invariant-loop decreases-loop
 mul-steps c = search rules

@@ -65,7 +65,7 @@ returns c t =
     let e = c.step_of_lem.ensures in
     record {
       step_is = e;
-      top-is = ap (λ l. a.limit / l + 1) e;
+      top_is = ap (λ l. a.limit / l + 1) e;
       width_is = ap (λ l. 2 * a.ratio * (a.limit / l) + (2 * a.ratio - 1) * a.loads + 1) e;
       depth_is = ap (λ l. a.ratio * (a.limit / l) + a.ratio * a.loads) e;
     }

@@ -2,7 +2,7 @@
 use mathlib.Core.Path.{ap, ◌∙◌}
 use Prim.Native.Nat.{◌+◌}
 use Rattle.model.specs.Frames.{field}
-use Rattle.model.proofs.LengthLaws.{ratio-few}
+use Rattle.model.proofs.LengthLaws.{ratio_few}
 use native.Mathlib.Omega.{arith}
 use borrow.Author.Rules.{rules}
 use Rattle.header.proofs.budget_of.Statement.{statement}
@@ -12,7 +12,7 @@ ratio-digits-requires : tie.Need-ratio-digits-requires
 ratio-digits-requires c κs = search rules
 
 add-number : tie.Need-overflow-add-number
-add-number c = omega (arith, c.ratio-digits.ensures, ratio-few c.before.before.args.line.now)
+add-number c = omega (arith, c.ratio-digits.ensures, ratio_few c.before.before.args.line.now)
 
 number-requires : tie.Need-number-requires
 number-requires c κs = omega (arith, c.ratio-digits.ensures)

@@ -13,7 +13,7 @@ use Rattle.model.specs.Book.{header_kinds, header_rules, slot_count, load_count,
 use Rattle.model.specs.Bounds.{most_loads, most_fineness, most_ratio}
 use Rattle.model.proofs.FrameLaws.{field_below}
 use Rattle.model.proofs.RefusalLaws.{first_here, first_next, first_last}
-use Rattle.model.proofs.LengthLaws.{ratio-few}
+use Rattle.model.proofs.LengthLaws.{ratio_few}
 use Rattle.model.proofs.ListLaws.{first_out, second_out, none_out}
 use native.Mathlib.Omega.{arith}
 use borrow.Author.Rules.{rules}
@@ -76,7 +76,7 @@ ratio-digits-requires c κs =
 small : (c : tie.After-ratio-digits) → (c.before.before.before.number.result < 16 ^ 2) × (c.ratio-digits.result ≤ 2)
 small c =
     let l = c.before.before.before.before.before.before.before.before.before.before.args.line.now in
-    (rw c.before.before.before.number.ensures (field_below l 2 2), rw c.ratio-digits.ensures (ratio-few l))
+    (rw c.before.before.before.number.ensures (field_below l 2 2), rw c.ratio-digits.ensures (ratio_few l))
 
 add-if4 : tie.Need-overflow-add-if4
 add-if4 c = omega (arith, small c)

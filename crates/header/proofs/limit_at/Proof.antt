@@ -6,7 +6,7 @@ use lib.ListN.{get_or-eq_default}
 use Rattle.model.specs.Frames.{field}
 use Rattle.model.specs.Book.{slot_count, ratio_digits, limits_in}
 use Rattle.model.proofs.UptoLaws.{length-upto, get_d_upto}
-use Rattle.model.proofs.LengthLaws.{ratio-few}
+use Rattle.model.proofs.LengthLaws.{ratio_few}
 use native.Mathlib.Omega.{arith}
 use borrow.Author.Rules.{rules}
 use Rattle.header.proofs.limit_at.Statement.{statement}
@@ -16,13 +16,13 @@ ratio-digits-requires : tie.Need-ratio-digits-requires
 ratio-digits-requires c κs = let h = c.before.before.requires in omega arith
 
 add-number : tie.Need-overflow-add-number
-add-number c = omega (arith, c.ratio-digits.ensures, ratio-few c.before.before.before.args.line.now)
+add-number c = omega (arith, c.ratio-digits.ensures, ratio_few c.before.before.before.args.line.now)
 
 mul-number : tie.Need-overflow-mul-number
 mul-number c = search rules
 
 add-number-2 : tie.Need-overflow-add-number-2
-add-number-2 c = let h = c.before.before.before.requires in omega (arith, c.ratio-digits.ensures, ratio-few c.before.before.before.args.line.now)
+add-number-2 c = let h = c.before.before.before.requires in omega (arith, c.ratio-digits.ensures, ratio_few c.before.before.before.args.line.now)
 
 number-requires : tie.Need-number-requires
 number-requires c κs = let h = c.before.before.before.requires in omega (arith, c.ratio-digits.ensures)

@@ -1,7 +1,7 @@
 -- `header::ratio_of` meets its contract. Assumes nothing.
 use mathlib.Core.Path.{sym, ap, ◌∙◌}
 use Rattle.model.specs.Frames.{field}
-use Rattle.model.proofs.LengthLaws.{ratio-few}
+use Rattle.model.proofs.LengthLaws.{ratio_few}
 use Rattle.header.proofs.HeaderLaws.{ratio_unstated, ratio-stated}
 use native.Mathlib.Omega.{arith}
 use borrow.Author.Rules.{rules}
@@ -15,7 +15,7 @@ returns : tie.Need-returns
 returns c = sym (ratio_unstated c.before.before.before.args.line.now (omega (arith, c.before.ratio-digits.ensures)))
 
 number-requires : tie.Need-number-requires
-number-requires c κs = omega (arith, c.before.ratio-digits.ensures, ratio-few c.before.before.before.args.line.now)
+number-requires c κs = omega (arith, c.before.ratio-digits.ensures, ratio_few c.before.before.before.args.line.now)
 
 returns-2 : tie.Need-returns-2
 returns-2 c =

@@ -26,7 +26,7 @@ keeps-requires c κs =
     let b = problem_of a.args.book in
     let d = a.requires.1 in
     let is = c.sums-of.ensures ∙ ap sums_value (held-code-choice a.args.book a.requires.0 d _ c.before.picks_of.ensures) in
-    (a.requires.0, subst SumsSmall (sym is) (choice-sums b (held-valid a.args.book a.requires.0) d.choice d.of-book))
+    (a.requires.0, subst SumsSmall (sym is) (choice-sums b (held-valid a.args.book a.requires.0) d.choice d.of_book))
 
 returns : tie.Need-returns
 returns c =
@@ -36,9 +36,9 @@ returns c =
     let d = a.requires.1 in
     c.keeps.ensures d.choice
     (c.before.sums-of.ensures ∙ ap sums_value (held-code-choice a.args.book a.requires.0 d _ c.before.before.picks_of.ensures))
-    (choice-small b valid d.choice d.of-book)
-    (chosen_length b.loads d.choice d.of-book)
-    ∙ ap (keeps_limits (slots_of b)) (sym (ap (choice_coded b) d.is ∙ coded_choice b valid d.choice d.of-book))
+    (choice-small b valid d.choice d.of_book)
+    (chosen_length b.loads d.choice d.of_book)
+    ∙ ap (keeps_limits (slots_of b)) (sym (ap (choice_coded b) d.is ∙ coded_choice b valid d.choice d.of_book))
 
 pub keeps-code-spec : {M : Type 1} → statement M
 keeps-code-spec = tie.close (tie.spec picks-of-requires sums-of-requires keeps-requires returns)

@@ -28,7 +28,7 @@ decreases-loop c unit load grid active₀ back₀ up₀ down₀ t₀ active back
 loop-holds : tie.Need-loop-init invariant-loop decreases-loop
 loop-holds c =
     let few = load_few c.args.t1 c.requires.0 in
-    (omega arith, omega (arith, c.requires.1.0.is.slots-fit, c.requires.1.0.is.slots-are), omega arith, refl, λ h l. moved_none l.slots (setting_of h.settings c.args.c) c.args.t4.slots _ l.is.slots-are refl)
+    (omega arith, omega (arith, c.requires.1.0.is.slots_fit, c.requires.1.0.is.slots_are), omega arith, refl, λ h l. moved_none l.slots (setting_of h.settings c.args.c) c.args.t4.slots _ l.is.slots_are refl)
 
 sub-t : tie.Need-overflow-sub-t invariant-loop decreases-loop
 sub-t c = search rules
@@ -73,17 +73,17 @@ div-a : tie.Need-nonzero-div-a invariant-loop decreases-loop
 div-a c =
     let s = c.before.before.before.before.before.before.before in
     let m = c.before.before.before.before.before.before.loop in
-    let k : m.t - 1 < length s.requires.1.0.slots = omega (arith, s.requires.1.0.is.slots-are) in
-    omega (arith, (s.requires.1.0.is.each (m.t - 1) k).step_is, (s.requires.1.0.sound (m.t - 1) k).step-some)
+    let k : m.t - 1 < length s.requires.1.0.slots = omega (arith, s.requires.1.0.is.slots_are) in
+    omega (arith, (s.requires.1.0.is.each (m.t - 1) k).step_is, (s.requires.1.0.sound (m.t - 1) k).step_some)
 
 grid-value-requires : tie.Need-grid-value-requires invariant-loop decreases-loop
 grid-value-requires c κs =
     let s = c.before.before.before.before.before.before.before in
     let m = c.before.before.before.before.before.before.loop in
-    let k : m.t - 1 < length s.requires.1.0.slots = omega (arith, s.requires.1.0.is.slots-are) in
+    let k : m.t - 1 < length s.requires.1.0.slots = omega (arith, s.requires.1.0.is.slots_are) in
     let e = (s.requires.1.0.is.each (m.t - 1) k).step_is in
     let f = s.requires.1.0.sound (m.t - 1) k in
-    (load_q-small s.args.t1 s.requires.0 s.args.c m.invariant.2 (m.t - 1) (omega arith), omega (arith, e, f.step-some), omega (arith, e, f.step_small))
+    (load_q-small s.args.t1 s.requires.0 s.args.c m.invariant.2 (m.t - 1) (omega arith), omega (arith, e, f.step_some), omega (arith, e, f.step_small))
 
 mul-active : tie.Need-overflow-mul-active invariant-loop decreases-loop
 mul-active c = search rules
@@ -106,8 +106,8 @@ more c h l =
     let s = c.before.before.before.before.before.before.before.before in
     let m = c.before.before.before.before.before.before.before.loop in
     let v = setting_of h.settings s.args.c in
-    let k : m.t - 1 < length l.slots = omega (arith, l.is.slots-are) in
-    moved_more l.slots v (load_setting s.args.t1 h s.args.c m.invariant.2) (m.t - 1) k l.is.slots-fit _ _ _ m.back m.up m.down m.active
+    let k : m.t - 1 < length l.slots = omega (arith, l.is.slots_are) in
+    moved_more l.slots v (load_setting s.args.t1 h s.args.c m.invariant.2) (m.t - 1) k l.is.slots_fit _ _ _ m.back m.up m.down m.active
     (digits_at s.args.t1 h s.args.c m.invariant.2 (m.t - 1) (omega arith) s.args.t4 _ c.grid-value.result (l.is.each (m.t - 1) k) (l.sound (m.t - 1) k).place_is (c.grid-value.ensures.0 ∙ ap raised c.grid-value.ensures.1))
     (back_one (λ t. Moved l.slots v t m.back m.up m.down m.active) m.t c.before.before.before.before.before.before.loop-test.true (m.invariant.4 h l))
 
@@ -120,7 +120,7 @@ fits c =
     let l = c.before.before.before.before.before.before.before.before.requires.1.0 in
     let v = setting_of h.settings c.before.before.before.before.before.before.before.before.args.c in
     let r = more c h l in
-    (back_fits l.slots v l.is.slots-fit (inside l) _ _ _ _ _ r, up_fits l.slots v l.is.slots-fit (inside l) _ _ _ _ _ r, down_fits l.slots v l.is.slots-fit (inside l) _ _ _ _ _ r)
+    (back_fits l.slots v l.is.slots_fit (inside l) _ _ _ _ _ r, up_fits l.slots v l.is.slots_fit (inside l) _ _ _ _ _ r, down_fits l.slots v l.is.slots_fit (inside l) _ _ _ _ _ r)
 
 mul-back : tie.Need-overflow-mul-back invariant-loop decreases-loop
 mul-back c = omega (arith, fits c)
@@ -147,7 +147,7 @@ loop-again : tie.Need-loop-preserved invariant-loop decreases-loop
 loop-again c =
     let m = c.before.before.before.before.before.before.before.loop in
     let s = c.before.before.before.before.before.before.before.before in
-    (omega arith, m.invariant.1, m.invariant.2, (more c s.requires.0 s.requires.1.0).active-length, more c)
+    (omega arith, m.invariant.1, m.invariant.2, (more c s.requires.0 s.requires.1.0).active_length, more c)
 
 mul-gain : tie.Need-overflow-mul-gain invariant-loop decreases-loop
 mul-gain c = search rules
@@ -163,7 +163,7 @@ returns c h l k e =
     let s = c.before.before.before in
     let m = c.before.before.loop in
     let none : m.t ≡ 0 = omega arith in
-    moved_all s.args.t1 h s.args.c s.args.unit k l.slots m.back m.up m.down m.active s.requires.1.1.0 s.requires.1.1.1 e l.is.slots-fit (inside l)
+    moved_all s.args.t1 h s.args.c s.args.unit k l.slots m.back m.up m.down m.active s.requires.1.1.0 s.requires.1.1.1 e l.is.slots_fit (inside l)
     (subst (λ t. Moved l.slots (setting_of h.settings s.args.c) t m.back m.up m.down m.active) none (m.invariant.4 h l))
 
 pub move-of-spec : {M : Type 1} → statement M

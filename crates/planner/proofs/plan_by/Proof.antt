@@ -7,7 +7,7 @@ use Rattle.model.specs.Calls.{fitting, free_for}
 use Rattle.model.proofs.AnswerLaws.{writes-same, refused-writes}
 use Rattle.model.proofs.ReadingLaws.{reading_held, reading_done, reading_refused}
 use Rattle.planner.specs.Planner.{fitted_plan}
-use Rattle.planner.proofs.CallLaws.{fine_fitting, fine_plan, result_is, free-is, too_coarse, fine-enough}
+use Rattle.planner.proofs.CallLaws.{fine_fitting, fine_plan, result_is, free-is, too_coarse, fine_enough}
 use borrow.Author.Rules.{rules}
 use Rattle.planner.proofs.plan_by.Statement.{statement}
 use Rattle.planner.proofs.plan_by.Tie as tie
@@ -65,7 +65,7 @@ returns-3 c =
     let words = length a.work.now in
     let room = length a.sheet.now in
     let z = c.before.before.before.before.before.before.before.before.before.before.if1.false in
-    let enough = fine-enough a.test r.result.book
+    let enough = fine_enough a.test r.result.book
     (sym c.before.before.before.before.before.before.before.before.too-coarse.ensures ∙ c.before.before.before.before.before.before.before.if2.false) in (
       writes-same
           (sym (ap (λ x. and_then x (fitted_plan a.test words room)) enough)

@@ -31,10 +31,10 @@ loop-holds c =
     (omega arith, omega arith, length-replicate {A = ℕ} most_rows 0, length-replicate {A = ℕ} most_rows 0, rows_one p.1.0, p.1.1.0, empty_zeros 1, p.1.1.1)
 
 mul-load : tie.Need-overflow-mul-load invariant-loop decreases-loop
-mul-load c = omega (arith, c.before.before.before.requires.1.0.loads-fit)
+mul-load c = omega (arith, c.before.before.before.requires.1.0.loads_fit)
 
 array-copy-out-load : tie.Need-array-copy-out-load invariant-loop decreases-loop
-array-copy-out-load c = omega (arith, c.before.before.before.requires.1.0.loads-fit)
+array-copy-out-load c = omega (arith, c.before.before.before.requires.1.0.loads_fit)
 
 tries-requires : tie.Need-tries-requires invariant-loop decreases-loop
 tries-requires c κs =
@@ -42,7 +42,7 @@ tries-requires c κs =
     run_tries p.1.0 c.before.loop-test.true p.0 (c.before.before.loop.invariant.7 p.1.0)
 
 add-trials : tie.Need-overflow-add-trials invariant-loop decreases-loop
-add-trials c = omega (arith, c.tries.ensures.1, c.before.before.before.before.before.requires.1.0.loads-fit)
+add-trials c = omega (arith, c.tries.ensures.1, c.before.before.before.before.before.requires.1.0.loads_fit)
 
 same_length : tie.Need-same-length invariant-loop decreases-loop
 same_length c = (c.before.before.before.before.loop.invariant.7 c.before.before.before.before.before.before.requires.1.0).places.same_length
@@ -65,7 +65,7 @@ sub-load-pass c =
     run_cur p.1.0 c.before.before.before.before.before.loop-test.true p.0 (c.before.before.before.before.before.before.loop.invariant.7 p.1.0)
 
 add-load-pass : tie.Need-overflow-add-load-pass invariant-loop decreases-loop
-add-load-pass c = omega (arith, c.before.before.before.before.before.before.before.before.before.before.before.before.requires.1.0.loads-fit)
+add-load-pass c = omega (arith, c.before.before.before.before.before.before.before.before.before.before.before.before.requires.1.0.loads_fit)
 
 load-pass-requires : tie.Need-load-pass-requires invariant-loop decreases-loop
 load-pass-requires c κs =
@@ -97,8 +97,8 @@ loop-again c =
     let made = c.before.before.load-pass.ensures in (
       omega arith,
       omega (arith, t.1),
-      made.1.1.low-length,
-      made.1.1.high-length,
+      made.1.1.low_length,
+      made.1.1.high_length,
       c.before.before.before.before.before.before.before.before.reach_of.ensures.fits,
       made.0,
       made.0,

@@ -14,7 +14,7 @@ array-write-lows : tie.Need-array-write-lows
 array-write-lows c = search rules
 
 add-highs : tie.Need-overflow-add-highs
-add-highs c = let m = c.before.requires.1 in omega (arith, origin_in m, width_in m, m.grid-is.cells_fit)
+add-highs c = let m = c.before.requires.1 in omega (arith, origin_in m, width_in m, m.grid_is.cells_fit)
 
 array-write-highs : tie.Need-array-write-highs
 array-write-highs c = search rules

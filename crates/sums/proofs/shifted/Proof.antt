@@ -42,7 +42,7 @@ add-next-2 : tie.Need-overflow-add-next-2 invariant-loop decreases-loop
 add-next-2 c =
     let a = c.before.before in
     let s = c.before.loop.s in
-    omega (arith, a.requires.sums-small s (omega arith), a.requires.powers-small (4 * a.args.c + s) (omega arith))
+    omega (arith, a.requires.sums_small s (omega arith), a.requires.powers_small (4 * a.args.c + s) (omega arith))
 
 mul-next-4 : tie.Need-overflow-mul-next-4 invariant-loop decreases-loop
 mul-next-4 c = search rules

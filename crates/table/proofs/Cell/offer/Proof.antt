@@ -9,7 +9,7 @@ returns : tie.Need-returns
 returns c = search offered-empty
 
 add-worth : tie.Need-overflow-add-worth
-add-worth c = record { fits = c.before.before.before.requires.worth-fits (omega arith) }
+add-worth c = record { fits = c.before.before.before.requires.worth_fits (omega arith) }
 
 add-t7 : tie.Need-overflow-add-t7
 add-t7 c = record { fits = c.before.before.before.before.before.before.requires.code_fits (omega arith) }
