@@ -1,0 +1,12 @@
+-- `hexadecimal::copy` meets its contract. The invariant: the first bytes are written.
+use Prim.Native.Nat.{◌≤◌, ◌-◌}
+use mathlib.Core.Path.{◌≡◌}
+use lib.ListN.{length, take}
+use Rattle.hexadecimal.specs.Written.{written}
+use Rattle.hexadecimal.proofs.copy.Given as goal
+
+abbrev pub invariant-loop-i : goal.invariant-loop-i
+invariant-loop-i l = (l.i ≤ length l.bytes) × (length l.buf ≡ length l.initial.buf) × (l.buf ≡ written l.initial.buf l.at (take l.i l.bytes))
+
+abbrev pub decreases-loop-i : goal.decreases-loop-i
+decreases-loop-i l = length l.bytes - l.i
