@@ -15,8 +15,10 @@ use Rattle.model.specs.Book.{Problem}
 use Rattle.model.specs.Choice.{Choice, sum_in, square, apparent_squared}
 use Rattle.model.specs.Grid.{slots_from, slots_of, keeps_limits}
 use Rattle.model.specs.Valid.{SettingSmall}
-use Rattle.model.specs.Values.{raised_by}
-use Rattle.model.proofs.UptoLaws.{suc_across}
+use Rattle.model.specs.declared.Book.{Book}
+use Rattle.model.specs.Bounds.{most_slots}
+use Rattle.model.specs.Values.{raised_by, Held, book_value}
+use Rattle.model.proofs.UptoLaws.{suc_across, length-upto}
 use Rattle.model.proofs.AdmissionLaws.{square_abs}
 use Rattle.model.proofs.RaisedLaws.{raised_abs}
 use Rattle.model.proofs.SumLaws.{sum-small}
@@ -75,3 +77,9 @@ module _ (c : Choice) (small : Every SettingSmall c) where
       ap (λ n. all (kept_in (sums_value c) n b.limits) (upto_from 0 (length b.limits))) (sym sized)
       ∙ slots_kept c (kept_in (sums_value c) (length c) b.limits) (length b.loads) b.fineness b.ratio 0 b.limits
       (λ j l. ap (kept_in (sums_value c) (length c) b.limits) (zero-add j) ∙ entry_kept b.limits j (omega arith) ∙ ap (λ k. slot_kept c k (get_or b.limits j 0)) (sym (zero-add j)))
+
+-- ---- a book's limits
+
+pub limits_room : (v : Book) → Held v → length v.limits ≡ most_slots
+unfolding book_value
+limits_room v h = ap (λ (x : Book). length x.limits) h.is ∙ length-upto (λ s. get_or h.b.limits s 0) most_slots

@@ -4,9 +4,9 @@ use Rattle.model.specs.Lists.{upto, all}
 use Rattle.model.specs.Choice.{square}
 use Rattle.sums.specs.declared.Sums.{Sums}
 
--- P² + Q² ≤ S², where q is Q + zero
+-- P² + Q² ≤ S², where q is Q + bias
 abbrev pub fits_in : ℕ → ℕ → ℕ → ℕ → Bool
-fits_in p q zero limit = leb (square p + square ((q - zero) + (zero - q))) (square limit)
+fits_in p q bias limit = leb (square p + square ((q - bias) + (bias - q))) (square limit)
 
 -- in slot s, of the sums of n loads
 abbrev pub kept_in : Sums → ℕ → List ℕ → ℕ → Bool
