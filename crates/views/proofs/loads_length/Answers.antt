@@ -1,0 +1,27 @@
+-- `views::loads_length` meets its contract. The invariant: the bytes of the loads passed are counted.
+use Prim.Native.Nat.{suc, ◌-◌}
+use mathlib.Core.Path.{sym, ap}
+use mathlib.Core.Logic.{⊎_elim}
+use lib.ListN.{length}
+use Rattle.views.proofs.MillLaws.{load_stands, length_runs, loads-none, length_more, loads_most}
+use borrow.Author.Rules.{rules}
+use native.Mathlib.Omega.{arith}
+use Rattle.views.proofs.loads_length.Goals as goal
+
+pub loop-k-init : goal.loop-k-init
+loop-k-init c = (search rules, sym (ap length (loads-none c.args.picks)))
+
+pub overflow_add-bytes : goal.overflow_add-bytes
+overflow_add-bytes c =
+    let l = c.loop-k in
+    omega (arith, l.invariant.1, loads_most c.args.picks l.k)
+
+pub loop-k-preserved : goal.loop-k-preserved
+loop-k-preserved c =
+    let a = c.args in
+    let l = c.loop-k in
+    let more = length_more a.picks l.k in
+    ⊎_elim
+    (λ w. (omega arith, omega (arith, more, length_runs (suc l.k) _ w.0.taken)))
+    (λ w. (omega arith, omega (arith, more, ap length (load_stands (suc l.k) _ w.0.left))))
+    c.if-picks-k-ne0.branch
