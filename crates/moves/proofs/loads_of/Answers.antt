@@ -7,7 +7,7 @@ use lib.ListN.{get_or, length-set}
 use Rattle.model.specs.Values.{problem_of}
 use Rattle.model.proofs.HeldLaws.{held-few}
 use Rattle.grid.proofs.ArrayLaws.{set-each}
-use Rattle.moves.specs.Moves.{no_moves, LoadIs}
+use Rattle.moves.specs.Moves.{no_moves, moves_of, LoadIs}
 use Rattle.moves.proofs.LoadLaws.{load_held, unit-small, unit-more}
 use Rattle.moves.proofs.loads_of.Goals as goal
 
@@ -35,9 +35,9 @@ loop-k-preserved c =
     let m = c.loop-k in (
       omega arith,
       m.invariant.1,
-      length-set m.moves m.k c.Moves-of.result ∙ m.invariant.2,
+      length-set m.moves m.k c.moves_of.result ∙ m.invariant.2,
       unit-more m.unit m.k m.invariant.3,
       λ l.
-          set-each (λ i x. LoadIs l.slots i (get_or (problem_of c.args.book).loads i []) x) m.moves m.k c.Moves-of.result no_moves (omega arith)
-          (c.Moves-of.ensures (load_held c.args.book c.requires.held m.k _ c.loop-k-test.true) l m.k m.invariant.3) (m.invariant.4 l),
+          set-each (λ i x. LoadIs l.slots i (get_or (problem_of c.args.book).loads i []) x) m.moves m.k c.moves_of.result no_moves (omega arith)
+          (c.moves_of.ensures (load_held c.args.book c.requires.held m.k _ c.loop-k-test.true) l m.k m.invariant.3) (m.invariant.4 l),
     )

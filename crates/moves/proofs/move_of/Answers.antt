@@ -1,6 +1,6 @@
 -- `moves::move_of` meets its contract. The invariant: the numbers are those of the slots from t on.
 use Prim.Native.Nat.{◌+◌, ◌-◌, ◌*◌, ◌/◌, ◌<◌, ◌≤◌}
-use mathlib.Core.Path.{refl, ap, ◌∙◌}
+use mathlib.Core.Path.{◌≡◌, refl, ap, ◌∙◌, subst}
 use native.Mathlib.Omega.{arith}
 use lib.ListN.{get_or, set, length}
 use Rattle.model.specs.Bounds.{most_cells}
@@ -11,7 +11,7 @@ use Rattle.grid.specs.declared.Grid.{Grid}
 use Rattle.grid.specs.Geometry.{Laid}
 use Rattle.grid.proofs.GeometryLaws.{back_one}
 use Rattle.moves.specs.Moves.{LoadHeld}
-use Rattle.moves.proofs.MoveLaws.{Moved, moved_none, moved_more, back_fits, up_fits, down_fits, load_few, load_setting, load_q-small, digits_at}
+use Rattle.moves.proofs.MoveLaws.{Moved, moved_none, moved_more, moved_all, back_fits, up_fits, down_fits, load_few, load_setting, load_q-small, digits_at}
 use Rattle.moves.proofs.move_of.Goals as goal
 
 -- the cells of the slots of which a grid speaks
@@ -38,7 +38,7 @@ grid_value-b-requires c =
     (load_q-small c.args.load c.requires.load_held c.args.c m.invariant.2 (m.t - 1) (omega arith), omega (arith, e, f.step_some), omega (arith, e, f.step_small))
 
 -- one slot more
-more : (c : goal.After-grid_value-b) → (c : tie.After-grid-value invariant-loop decreases-loop) (h : LoadHeld c.args.load) (l : Laid c.args.grid) → Moved l.slots (setting_of h.settings c.args.c) (c.loop-t.t - 1) (c.loop-t.back * get_or c.args.grid.tops (c.loop-t.t - 1) 0 + get_or c.args.load.actives (4 * c.args.c + (c.loop-t.t - 1)) 0 / get_or c.args.grid.steps (c.loop-t.t - 1) 0) (c.loop-t.up * get_or c.args.grid.widths (c.loop-t.t - 1) 0 + c.grid_value-b.result) (c.loop-t.down * get_or c.args.grid.widths (c.loop-t.t - 1) 0 + 32768) (set c.loop-t.active (c.loop-t.t - 1) (get_or c.args.load.actives (4 * c.args.c + (c.loop-t.t - 1)) 0 / get_or c.args.grid.steps (c.loop-t.t - 1) 0))
+more : (c : goal.After-grid_value-b) → (h : LoadHeld c.args.load) (l : Laid c.args.grid) → Moved l.slots (setting_of h.settings c.args.c) (c.loop-t.t - 1) (c.loop-t.back * get_or c.args.grid.tops (c.loop-t.t - 1) 0 + get_or c.args.load.actives (4 * c.args.c + (c.loop-t.t - 1)) 0 / get_or c.args.grid.steps (c.loop-t.t - 1) 0) (c.loop-t.up * get_or c.args.grid.widths (c.loop-t.t - 1) 0 + c.grid_value-b.result) (c.loop-t.down * get_or c.args.grid.widths (c.loop-t.t - 1) 0 + 32768) (set c.loop-t.active (c.loop-t.t - 1) (get_or c.args.load.actives (4 * c.args.c + (c.loop-t.t - 1)) 0 / get_or c.args.grid.steps (c.loop-t.t - 1) 0))
 more c h l =
     let m = c.loop-t in
     let v = setting_of h.settings c.args.c in
@@ -77,3 +77,10 @@ pub loop-t-preserved : goal.loop-t-preserved
 loop-t-preserved c =
     let m = c.loop-t in
     (omega arith, m.invariant.1, m.invariant.2, (more c c.requires.load_held c.requires.laid).active_length, more c)
+
+pub returns : goal.returns
+returns c h l k e =
+    let m = c.loop-t in
+    let none : m.t ≡ 0 = omega arith in
+    moved_all c.args.load h c.args.c c.args.unit k l.slots m.back m.up m.down m.active c.requires.least_le_c.0 c.requires.least_le_c.1 e l.is.slots_fit (inside l)
+    (subst (λ t. Moved l.slots (setting_of h.settings c.args.c) t m.back m.up m.down m.active) none (m.invariant.4 h l))

@@ -8,6 +8,7 @@ use Rattle.stretch.specs.Stretch.{no_move}
 use Rattle.grid.proofs.ArrayLaws.{set-each}
 use Rattle.moves.specs.Moves.{MoveIs}
 use Rattle.moves.proofs.MoveLaws.{load_few}
+use Rattle.moves.proofs.LoadLaws.{load_all}
 use Rattle.moves.proofs.moves_of.Goals as goal
 
 pub loop-i-init : goal.loop-i-init
@@ -22,3 +23,8 @@ loop-i-preserved c =
       λ h l k e.
           set-each (λ j x. MoveIs l.slots k (setting_of h.settings (c.args.load.least + j)) x) m.moves m.i c.move_of.result no_move (omega arith) (c.move_of.ensures h l k e) (m.invariant.3 h l k e),
     )
+
+pub returns : goal.returns
+returns c h l k e =
+    let m = c.loop-i in
+    load_all c.args.load h l.slots k m.moves (λ i j. m.invariant.3 h l k e i (omega arith))

@@ -7,6 +7,7 @@ use Rattle.views.proofs.MillLaws.{load_stands, length_runs, loads-none, length_m
 use borrow.Author.Rules.{rules}
 use native.Mathlib.Omega.{arith}
 use Rattle.views.proofs.loads_length.Goals as goal
+use Rattle.views.proofs.loads_length.Goals.{then-picks-k-ne0, else-picks-k-ne0}
 
 pub loop-k-init : goal.loop-k-init
 loop-k-init c = (search rules, sym (ap length (loads-none c.args.picks)))
@@ -18,10 +19,9 @@ overflow_add-bytes c =
 
 pub loop-k-preserved : goal.loop-k-preserved
 loop-k-preserved c =
-    let a = c.args in
     let l = c.loop-k in
-    let more = length_more a.picks l.k in
-    ⊎_elim
-    (λ w. (omega arith, omega (arith, more, length_runs (suc l.k) _ w.0.taken)))
-    (λ w. (omega arith, omega (arith, more, ap length (load_stands (suc l.k) _ w.0.left))))
-    c.if-picks-k-ne0.branch
+    let more = length_more c.args.picks l.k in
+    elim c.if-picks-k-ne0.branch [
+      then-picks-k-ne0 w ↦ (omega arith, omega (arith, more, w.bytes-is, length_runs (suc l.k) _ w.if-picks-k-ne0.true))
+      | else-picks-k-ne0 w ↦ (omega arith, omega (arith, more, w.bytes-is, ap length (load_stands (suc l.k) _ w.if-picks-k-ne0.false)))
+    ]

@@ -9,4 +9,4 @@ returns c =
     line-written a.view.now _ _ _ a.picks a.worth a.count w.result
     c.write.ensures
     c.write-2.ensures
-    w.ensures.0 w.ensures.1 c.requires.count_in_bounds
+    c.write_loads-end.ensures.bytes c.write_loads-end.ensures.next c.requires.count_in_bounds

@@ -30,8 +30,8 @@ loop-k-preserved c =
     let fits = loads-within a.picks (l.k + 1) a.count (omega arith) in (
       omega arith,
       omega arith,
-      w.ensures.1 ∙ (omega (arith, l.invariant.2)),
-      w.ensures.0
+      c.write_load-next.ensures.next ∙ (omega (arith, l.invariant.2)),
+      c.write_load-next.ensures.bytes
           ∙ write_on a.view.now l.view a.at l.next (loads_bytes a.picks l.k) (load_bytes (suc l.k) (get_or a.picks l.k 0)) l.invariant.3 l.invariant.2
           (omega (arith, c.requires.count_in_bounds, l.invariant.2))
           ∙ ap (written a.view.now a.at) (sym (loads-more a.picks l.k)),
