@@ -8,4 +8,4 @@ abbrev pub invariant-loop-load : goal.invariant-loop-load
 invariant-loop-load l = (length l.text ≡ length l.initial.text)
 
 abbrev pub decreases-loop-load : goal.decreases-loop-load
-decreases-loop-load l = load-end - l.load
+decreases-loop-load l = l.load-end - l.load

@@ -8,4 +8,4 @@ abbrev pub invariant-loop-slot : goal.invariant-loop-slot
 invariant-loop-slot l = (length l.text ≡ length l.initial.text)
 
 abbrev pub decreases-loop-slot : goal.decreases-loop-slot
-decreases-loop-slot l = slot-end - l.slot
+decreases-loop-slot l = l.slot-end - l.slot

@@ -1,0 +1,41 @@
+-- `scan::scan_row` meets its contract. The invariant: `best` is the best of `first` and of the cells before column col that pass.
+use mathlib.Core.Path.{◌∙◌, ap}
+use mathlib.Core.Logic.{⊎_elim}
+use Prim.Native.Nat.{◌-◌}
+use native.Mathlib.Omega.{arith}
+use Rattle.model.specs.Values.{problem_of}
+use Rattle.table.specs.Table.{key_of}
+use Rattle.scan.specs.Scan.{test_of}
+use Rattle.scan.proofs.BestLaws.{row_start, row_next, row_less, row_past, cell_in_row}
+use Rattle.scan.proofs.scan_row.Goals as goal
+
+pub loop-col-init : goal.loop-col-init
+loop-col-init c =
+    let a = c.args in
+    (omega arith, row_start (test_of a.test (problem_of a.book)) a.work.now a.at a.low a.high a.row (key_of a.first))
+
+pub better_at-best-requires-clause-coded : goal.better_at-best-requires-clause-coded
+better_at-best-requires-clause-coded c =
+    let a = c.args in
+    let l = c.loop-col in
+    let k = c.loop-col-test.true in
+    let p = c.requires.1 in
+    cell_in_row (problem_of a.book) a.work.now a.at a.low a.high l.col p.1.1 l.invariant.0 k
+
+pub loop-col-preserved : goal.loop-col-preserved
+loop-col-preserved c =
+    let a = c.args in
+    let l = c.loop-col in
+    let k = c.loop-col-test.true in (
+      omega arith,
+      ⊎_elim
+          (λ w. ap key_of w.2 ∙ row_next (test_of a.test (problem_of a.book)) a.work.now a.at a.low a.high a.row (key_of a.first) l.col l.invariant.0 k l.invariant.1 w.1.ensures)
+          (λ w. ap key_of w.1 ∙ row_less (test_of a.test (problem_of a.book)) a.work.now a.at a.low a.high a.row (key_of a.first) l.col l.best l.invariant.0 k l.invariant.1 w.0.left)
+          c.if-best-worth.branch,
+    )
+
+pub returns : goal.returns
+returns c =
+    let a = c.args in
+    let l = c.loop-col in
+    λ width k. row_past (test_of a.test (problem_of a.book)) a.work.now a.at a.low a.high a.row (key_of a.first) l.col width c.loop-col-test.false k l.invariant.1
