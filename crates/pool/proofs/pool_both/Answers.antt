@@ -17,56 +17,55 @@ use Rattle.pool.proofs.pool_both.Goals as goal
 pub returns-in-Refused : goal.returns-in-Refused
 returns-in-Refused c =
     let a = c.args in
-    let found = c.finding-1.given in
-    both_refused a.first.now a.second.now a.pooled.now (mills_of a.a a.b) c.requires.second_value found.0.0 (sym c.pair_finding-finding.ensures ∙ found.1)
+    both_refused a.first.now a.second.now a.pooled.now (mills_of a.a a.b) c.requires.second_value c.in-Refused.r (sym c.pair_finding-finding.ensures ∙ c.in-Refused.is)
     _ c.refusal.ensures
 
 pub overflow_add-lines : goal.overflow_add-lines
 overflow_add-lines c =
     let can : let a = c.args in poolable a.first.now a.second.now ≡ done (mills_of a.a a.b) = let a = c.args in
-    both_poolable a.first.now a.second.now (mills_of a.a a.b) c.requires.second_value (sym c.pair_finding-finding.ensures ∙ c.enum_told-1.given.1) in
+    both_poolable a.first.now a.second.now (mills_of a.a a.b) c.requires.second_value (sym c.pair_finding-finding.ensures ∙ c.in_default.is) in
     let there : let a = c.args in (line_length a.first.now < length a.first.now) × (line_length a.second.now < length a.second.now) = let a = c.args in lines_there a.first.now a.second.now (mills_of a.a a.b) (can) in
     omega (arith, c.line_length-lines.ensures, (there).0)
 
 pub overflow_add-others : goal.overflow_add-others
 overflow_add-others c =
     let can : let a = c.args in poolable a.first.now a.second.now ≡ done (mills_of a.a a.b) = let a = c.args in
-    both_poolable a.first.now a.second.now (mills_of a.a a.b) c.requires.second_value (sym c.pair_finding-finding.ensures ∙ c.enum_told-1.given.1) in
+    both_poolable a.first.now a.second.now (mills_of a.a a.b) c.requires.second_value (sym c.pair_finding-finding.ensures ∙ c.in_default.is) in
     let there : let a = c.args in (line_length a.first.now < length a.first.now) × (line_length a.second.now < length a.second.now) = let a = c.args in lines_there a.first.now a.second.now (mills_of a.a a.b) (can) in
     omega (arith, c.line_length-others.ensures, (there).1)
 
 pub slice_bounds-write_pooled-count : goal.slice_bounds-write_pooled-count
 slice_bounds-write_pooled-count c =
     let can : let a = c.args in poolable a.first.now a.second.now ≡ done (mills_of a.a a.b) = let a = c.args in
-    both_poolable a.first.now a.second.now (mills_of a.a a.b) c.requires.second_value (sym c.pair_finding-finding.ensures ∙ c.enum_told-1.given.1) in
+    both_poolable a.first.now a.second.now (mills_of a.a a.b) c.requires.second_value (sym c.pair_finding-finding.ensures ∙ c.in_default.is) in
     let there : let a = c.args in (line_length a.first.now < length a.first.now) × (line_length a.second.now < length a.second.now) = let a = c.args in lines_there a.first.now a.second.now (mills_of a.a a.b) (can) in
     omega (arith, c.line_length-lines.ensures, (there).0)
 
 pub slice_bounds-write_pooled-start : goal.slice_bounds-write_pooled-start
 slice_bounds-write_pooled-start c =
     let can : let a = c.args in poolable a.first.now a.second.now ≡ done (mills_of a.a a.b) = let a = c.args in
-    both_poolable a.first.now a.second.now (mills_of a.a a.b) c.requires.second_value (sym c.pair_finding-finding.ensures ∙ c.enum_told-1.given.1) in
+    both_poolable a.first.now a.second.now (mills_of a.a a.b) c.requires.second_value (sym c.pair_finding-finding.ensures ∙ c.in_default.is) in
     let there : let a = c.args in (line_length a.first.now < length a.first.now) × (line_length a.second.now < length a.second.now) = let a = c.args in lines_there a.first.now a.second.now (mills_of a.a a.b) (can) in
     omega (arith, c.line_length-lines.ensures, (there).0)
 
 pub slice_bounds-write_pooled-count-2 : goal.slice_bounds-write_pooled-count-2
 slice_bounds-write_pooled-count-2 c =
     let can : let a = c.args in poolable a.first.now a.second.now ≡ done (mills_of a.a a.b) = let a = c.args in
-    both_poolable a.first.now a.second.now (mills_of a.a a.b) c.requires.second_value (sym c.pair_finding-finding.ensures ∙ c.enum_told-1.given.1) in
+    both_poolable a.first.now a.second.now (mills_of a.a a.b) c.requires.second_value (sym c.pair_finding-finding.ensures ∙ c.in_default.is) in
     let there : let a = c.args in (line_length a.first.now < length a.first.now) × (line_length a.second.now < length a.second.now) = let a = c.args in lines_there a.first.now a.second.now (mills_of a.a a.b) (can) in
     omega (arith, c.line_length-others.ensures, (there).1)
 
 pub slice_bounds-write_pooled-start-2 : goal.slice_bounds-write_pooled-start-2
 slice_bounds-write_pooled-start-2 c =
     let can : let a = c.args in poolable a.first.now a.second.now ≡ done (mills_of a.a a.b) = let a = c.args in
-    both_poolable a.first.now a.second.now (mills_of a.a a.b) c.requires.second_value (sym c.pair_finding-finding.ensures ∙ c.enum_told-1.given.1) in
+    both_poolable a.first.now a.second.now (mills_of a.a a.b) c.requires.second_value (sym c.pair_finding-finding.ensures ∙ c.in_default.is) in
     let there : let a = c.args in (line_length a.first.now < length a.first.now) × (line_length a.second.now < length a.second.now) = let a = c.args in lines_there a.first.now a.second.now (mills_of a.a a.b) (can) in
     omega (arith, c.line_length-others.ensures, (there).1)
 
 pub write_pooled-requires-clause-others_len_bound : goal.write_pooled-requires-clause-others_len_bound
 write_pooled-requires-clause-others_len_bound c =
     let can : let a = c.args in poolable a.first.now a.second.now ≡ done (mills_of a.a a.b) = let a = c.args in
-    both_poolable a.first.now a.second.now (mills_of a.a a.b) c.requires.second_value (sym c.pair_finding-finding.ensures ∙ c.enum_told-1.given.1) in
+    both_poolable a.first.now a.second.now (mills_of a.a a.b) c.requires.second_value (sym c.pair_finding-finding.ensures ∙ c.in_default.is) in
     let there : let a = c.args in (line_length a.first.now < length a.first.now) × (line_length a.second.now < length a.second.now) = let a = c.args in lines_there a.first.now a.second.now (mills_of a.a a.b) (can) in
     let lines : let a = c.args in (take (length a.first.now - (c.line_length-lines.result + 1)) (drop (c.line_length-lines.result + 1) a.first.now) ≡ after_line a.first.now) × (take (length a.second.now - (c.line_length-others.result + 1)) (drop (c.line_length-others.result + 1) a.second.now) ≡ after_line a.second.now) = let a = c.args in (
       part_is a.first.now c.line_length-lines.result c.line_length-lines.ensures (there).0,
@@ -81,7 +80,7 @@ write_pooled-requires-clause-others_len_bound c =
 pub returns : goal.returns
 returns c =
     let can : let a = c.args in poolable a.first.now a.second.now ≡ done (mills_of a.a a.b) = let a = c.args in
-    both_poolable a.first.now a.second.now (mills_of a.a a.b) c.requires.second_value (sym c.pair_finding-finding.ensures ∙ c.enum_told-1.given.1) in
+    both_poolable a.first.now a.second.now (mills_of a.a a.b) c.requires.second_value (sym c.pair_finding-finding.ensures ∙ c.in_default.is) in
     let there : let a = c.args in (line_length a.first.now < length a.first.now) × (line_length a.second.now < length a.second.now) = let a = c.args in lines_there a.first.now a.second.now (mills_of a.a a.b) (can) in
     let lines : let a = c.args in (take (length a.first.now - (c.line_length-lines.result + 1)) (drop (c.line_length-lines.result + 1) a.first.now) ≡ after_line a.first.now) × (take (length a.second.now - (c.line_length-others.result + 1)) (drop (c.line_length-others.result + 1) a.second.now) ≡ after_line a.second.now) = let a = c.args in (
       part_is a.first.now c.line_length-lines.result c.line_length-lines.ensures (there).0,

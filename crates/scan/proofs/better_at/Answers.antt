@@ -6,8 +6,7 @@ use Rattle.scan.proofs.better_at.Goals as goal
 
 pub passes-requires-clause-code : goal.passes-requires-clause-code
 passes-requires-clause-code c =
-    let p = c.requires.1 in
-    better_coded c.args.best c.get-c.ensures c.beats.ensures (problem_of c.args.book) c.if-not-beats.false p.1.1
+    better_coded c.args.best c.get-c.ensures c.beats.ensures (problem_of c.args.book) c.if-not-beats.false c.requires.coded
 
 pub returns-then-passes : goal.returns-then-passes
 returns-then-passes c =

@@ -15,4 +15,4 @@ unfolding laid slots-held
 returns-in-Admission c =
     let a = c.args in
     c.admits_cell.ensures (slots-held a.book c.requires.held a.grid c.requires.grid_is)
-    ∙ sym (ap (λ t. test_of t (problem_of a.book) a.row a.col a.code) c.enum_told-1.given.1)
+    ∙ sym (ap (λ t. test_of t (problem_of a.book) a.row a.col a.code) c.in-Admission.is)

@@ -24,8 +24,7 @@ scan_row-best-requires-clause-row_coded c =
     let a = c.args in
     let l = c.loop-row in
     let t = c.loop-row-test.true in
-    let p = c.requires.1.1 in
-    row_coded (problem_of a.book) a.work.now a.lows.now a.highs.now a.grid a.cur l.row p.1.1.1 t (p.0.high_fits l.row t)
+    row_coded (problem_of a.book) a.work.now a.lows.now a.highs.now a.grid a.cur l.row c.requires.layer_coded t (c.requires.stretches_fit.high_fits l.row t)
 
 pub loop-row-preserved : goal.loop-row-preserved
 loop-row-preserved c =

@@ -8,6 +8,7 @@ use Rattle.table.specs.Table.{key_of}
 use Rattle.scan.specs.Scan.{test_of}
 use Rattle.scan.proofs.BestLaws.{row_start, row_next, row_less, row_past, cell_in_row}
 use Rattle.scan.proofs.scan_row.Goals as goal
+use Rattle.scan.proofs.scan_row.Goals.{then-best-worth, else-best-worth}
 
 pub loop-col-init : goal.loop-col-init
 loop-col-init c =
@@ -19,19 +20,19 @@ better_at-best-requires-clause-coded c =
     let a = c.args in
     let l = c.loop-col in
     let k = c.loop-col-test.true in
-    let p = c.requires.1 in
-    cell_in_row (problem_of a.book) a.work.now a.at a.low a.high l.col p.1.1 l.invariant.0 k
+    cell_in_row (problem_of a.book) a.work.now a.at a.low a.high l.col c.requires.row_coded l.invariant.0 k
 
 pub loop-col-preserved : goal.loop-col-preserved
 loop-col-preserved c =
     let a = c.args in
     let l = c.loop-col in
-    let k = c.loop-col-test.true in (
+    let k = c.loop-col-test.true in
+    let t = test_of a.test (problem_of a.book) in (
       omega arith,
-      ⊎_elim
-          (λ w. ap key_of w.2 ∙ row_next (test_of a.test (problem_of a.book)) a.work.now a.at a.low a.high a.row (key_of a.first) l.col l.invariant.0 k l.invariant.1 w.1.ensures)
-          (λ w. ap key_of w.1 ∙ row_less (test_of a.test (problem_of a.book)) a.work.now a.at a.low a.high a.row (key_of a.first) l.col l.best l.invariant.0 k l.invariant.1 w.0.left)
-          c.if-best-worth.branch,
+      elim c.if-best-worth.branch [
+        then-best-worth w ↦ ap key_of w.best-is ∙ row_next t a.work.now a.at a.low a.high a.row (key_of a.first) l.col l.invariant.0 k l.invariant.1 w.better_at-best.ensures
+        | else-best-worth w ↦ ap key_of w.best-is ∙ row_less t a.work.now a.at a.low a.high a.row (key_of a.first) l.col l.best l.invariant.0 k l.invariant.1 w.if-best-worth.false
+      ],
     )
 
 pub returns : goal.returns
