@@ -62,7 +62,7 @@ returns-clause-words c =
     let z = c.if-answer-ne0.false in
     let enough = fine_enough a.test r.result.book
     (sym c.too_coarse.ensures ∙ c.if-too_coarse.false) in
-    subst (λ n. WordsKept n a.work.now p.new.1.0)
+    subst (λ n. WordsKept n a.work.now p.new.work)
           (ap free_for (sym (ap (λ x. and_then x (fitting words room)) enough) ∙ reading_done a.book.now r.result r.ensures (fine_fitting words room a.test) z)
           ∙ sym (free-is words room a.test a.book.now))
           c.plan_book.ensures.words
