@@ -1,0 +1,24 @@
+-- `day::book_end` meets its contract. The invariant: what is left has the rest of the book.
+use Prim.Native.Nat.{◌-◌}
+use mathlib.Core.Bool.{true, ◌&&◌}
+use mathlib.Core.Logic.{⊎_elim}
+use mathlib.Core.Path.{sym, ap₂}
+use Rattle.model.proofs.ListLaws.{when_false}
+use Rattle.day.proofs.SplitLaws.{end_here, end_later, end_last}
+use borrow.Author.Rules.{rules}
+use native.Mathlib.Omega.{arith}
+use Rattle.day.proofs.book_end.Goals as goal
+
+pub returns-then-ends : goal.returns-then-ends
+returns-then-ends c =
+    let l = c.loop-at in
+    end_here _ _ l.at _ l.invariant.1 (search rules) (ap₂ ◌&&◌ c.if-starts.true c.if-ends.true-raw)
+
+pub loop-at-preserved : goal.loop-at-preserved
+loop-at-preserved c =
+    let l = c.loop-at in
+    let e = ⊎_elim (λ x. ap₂ ◌&&◌ x.0.taken x.1.left) (λ x. sym (when_false _ _ x.left)) c.if-starts.branch in
+    (search rules, end_later _ _ l.at _ l.invariant.1 (search rules) e)
+
+pub returns : goal.returns
+returns c = let l = c.loop-at in end_last _ _ l.at _ l.invariant.1 (omega arith)
