@@ -8,6 +8,7 @@ use Rattle.day.proofs.SplitLaws.{end_here, end_later, end_last}
 use borrow.Author.Rules.{rules}
 use native.Mathlib.Omega.{arith}
 use Rattle.day.proofs.book_end.Goals as goal
+use Rattle.day.proofs.book_end.Goals.{else-starts-via-then-starts+else-ends, else-starts-via-else-starts}
 
 pub returns-then-ends : goal.returns-then-ends
 returns-then-ends c =
@@ -17,8 +18,10 @@ returns-then-ends c =
 pub loop-at-preserved : goal.loop-at-preserved
 loop-at-preserved c =
     let l = c.loop-at in
-    let e = ⊎_elim (λ x. ap₂ ◌&&◌ x.0.taken x.1.left) (λ x. sym (when_false _ _ x.left)) c.if-starts.branch in
-    (search rules, end_later _ _ l.at _ l.invariant.1 (search rules) e)
+    elim c.else-starts.branch [
+      else-starts-via-then-starts+else-ends w ↦ (search rules, end_later _ _ l.at _ l.invariant.1 (search rules) (ap₂ ◌&&◌ w.if-starts.true w.if-ends.false-raw))
+      | else-starts-via-else-starts w ↦ (search rules, end_later _ _ l.at _ l.invariant.1 (search rules) (sym (when_false _ _ w.if-starts.false)))
+    ]
 
 pub returns : goal.returns
 returns c = let l = c.loop-at in end_last _ _ l.at _ l.invariant.1 (omega arith)

@@ -33,4 +33,4 @@ returns-clause-words c =
     let words = length c.args.work.now in
     let out = c.args.out.now in
     let same = same_output words book (length out) c.requires in
-    subst (λ n. WordsKept n c.args.work.now p.new.1.0) (same-free words book (length out) c.requires) c.plan-answer.ensures.words
+    subst (λ n. WordsKept n c.args.work.now p.new.work) (same-free words book (length out) c.requires) c.plan-answer.ensures.words

@@ -13,5 +13,6 @@ returns c =
     let words = c.words-work in
     let room = c.room-bytes in
     let end = c.book_length-end in
+    let w = c.plan-answer.ensures.result in
     value_is room.result _ _ _ room.ensures (c.print_answer-length.ensures.bytes ∙ printed-over _ room.result _ _ w) (c.print_answer-length.ensures.length ∙ ap length (printed_from_lem _ w))
     ∙ ap printed_value (program_is input words.result room.result end.result end.ensures.0 end.ensures.1 words.ensures room.ensures)
