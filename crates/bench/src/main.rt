@@ -5,6 +5,8 @@ mod faults;
 mod plans;
 mod readings;
 
+use std::io;
+
 // How many books are drawn.
 const TURNS: u64 = 3000;
 
@@ -31,10 +33,10 @@ fn run(tally: &mut [u64], work: &mut [u64]) {
     }
 }
 
-fn main() {
+fn main(rt: HostRuntime) -> io::Result<()> {
     let mut tally = [0u64; 96];
     // words for books of up to 98,304 cells, with something in them
     let mut work = [77u64; 393216];
     run(&mut tally, &mut work);
-    kinds::print_tally(&tally);
+    kinds::print_tally(&rt, &tally)
 }

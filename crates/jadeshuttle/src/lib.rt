@@ -1,5 +1,5 @@
 // The public calls for programs in C and other languages: the planner, the strict planner, the quick planner, the sheet reader, the charge, the
-// order of starting, what the mill and the supply company see, a day's books at once, one book for two mills, and all plans of a small book.
+// order of starting, what the mill and the supply company see, a day's books at once, and one book for two mills.
 #![tactic(auto)]
 ghost use Rattle.std.specs.Prelude.{◌≡◌, ◌≤◌, length, take};
 ghost use Rattle.model.specs.Trials.{WordsKept};
@@ -14,7 +14,6 @@ ghost use Rattle.model.specs.Order.{order_result, WritesOrder, OrderKept};
 ghost use Rattle.model.specs.Views.{mill_result, supply_result, NothingElse};
 ghost use Rattle.model.specs.Day.{day_result, day_free_words};
 ghost use Rattle.model.specs.Pool.{pool_result, Pooled};
-ghost use Rattle.model.specs.AllPlans.{list_result, AllListed};
 ghost use Rattle.model.specs.Bounds.{most_charge};
 
 use model::{Answer, ChargeAnswer, OrderAnswer, SheetAnswer};
@@ -115,13 +114,4 @@ pub extern "C" fn jadeshuttle_pool(first: &[u8], second: &[u8], pooled: &mut [u8
     ensures joint { result.number ≡ 0 → Pooled first.now second.now (take result.bytes pooled.new) }
 {
     pool::pool(first, second, pooled)
-}
-
-// All plans of a small book, a line for each choice that keeps every limit, or refusals 24 and 11; the book's own refusals come first.
-#[unsafe(no_mangle)]
-pub extern "C" fn jadeshuttle_list(book: &[u8], list: &mut [u8]) -> Answer
-    ensures result { Writes (list_result book.now (length list.old)) list.old list.new result }
-    ensures all { result.number ≡ 0 → AllListed book.now (take result.bytes list.new) }
-{
-    listing::list(book, list)
 }

@@ -1,6 +1,7 @@
 // Where each count stands in the tally, and how the tally is printed.
 #![tactic(auto)]
-use libc::STDOUT_FILENO;
+use std::io;
+use std::io::Print;
 use plain::{at, plus};
 
 // Answers by the number that is due: those of the planner, the quick planner and the sheet reader.
@@ -48,129 +49,131 @@ pub const COMPARED: u64 = 69;
 
 pub const DIFFER: u64 = 70;
 
-fn print(text: &[u8]) {
-    io::write_all(STDOUT_FILENO, text);
+fn print(rt: &impl Print, text: &[u8]) -> io::Result<()> {
+    rt.write_all(text)
 }
 
-fn print_count(name: &[u8], n: u64) {
-    print(name);
-    io::print_decimal(STDOUT_FILENO, n);
-    print(b"\n");
+fn print_count(rt: &impl Print, name: &[u8], n: u64) -> io::Result<()> {
+    print(rt, name)?;
+    rt.print(n)?;
+    print(rt, b"\n")
 }
 
-fn print_answer(call: &[u8], number: u64, n: u64) {
+fn print_answer(rt: &impl Print, call: &[u8], number: u64, n: u64) -> io::Result<()> {
     if n > 0 {
-        print(call);
-        io::print_decimal(STDOUT_FILENO, number);
-        print_count(b": ", n);
+        print(rt, call)?;
+        rt.print(number)?;
+        print_count(rt, b": ", n)?;
     }
+    Ok(())
 }
 
 // The answers of one call, by number.
-fn print_answers(call: &[u8], tally: &[u64], first: u64) {
+fn print_answers(rt: &impl Print, call: &[u8], tally: &[u64], first: u64) -> io::Result<()> {
     for number in 0..14 {
-        print_answer(call, number, at(tally, plus(first, number)));
+        print_answer(rt, call, number, at(tally, plus(first, number)))?;
     }
+    Ok(())
 }
 
-fn print_kind(name: &[u8], tally: &[u64], kind: u64) {
-    print_count(name, at(tally, kind));
+fn print_kind(rt: &impl Print, name: &[u8], tally: &[u64], kind: u64) -> io::Result<()> {
+    print_count(rt, name, at(tally, kind))
 }
 
-fn print_books(tally: &[u64]) {
-    print_kind(b"books of 1 slot: ", tally, BOOKS + 1);
-    print_kind(b"books of 2 slots: ", tally, BOOKS + 2);
-    print_kind(b"books of 3 slots: ", tally, BOOKS + 3);
-    print_kind(b"books of 4 slots: ", tally, BOOKS + 4);
-    print_kind(b"books whose plan has equals: ", tally, TIES);
+fn print_books(rt: &impl Print, tally: &[u64]) -> io::Result<()> {
+    print_kind(rt, b"books of 1 slot: ", tally, BOOKS + 1)?;
+    print_kind(rt, b"books of 2 slots: ", tally, BOOKS + 2)?;
+    print_kind(rt, b"books of 3 slots: ", tally, BOOKS + 3)?;
+    print_kind(rt, b"books of 4 slots: ", tally, BOOKS + 4)?;
+    print_kind(rt, b"books whose plan has equals: ", tally, TIES)
 }
 
-fn print_slots(tally: &[u64]) {
-    print_kind(b"slots with limit 0: ", tally, LIMIT_ZERO);
-    print_kind(b"slots with step 1: ", tally, STEP_ONE);
-    print_kind(b"slots with a step above 1: ", tally, STEP_ABOVE_ONE);
+fn print_slots(rt: &impl Print, tally: &[u64]) -> io::Result<()> {
+    print_kind(rt, b"slots with limit 0: ", tally, LIMIT_ZERO)?;
+    print_kind(rt, b"slots with step 1: ", tally, STEP_ONE)?;
+    print_kind(rt, b"slots with a step above 1: ", tally, STEP_ABOVE_ONE)
 }
 
-fn print_stepped(tally: &[u64]) {
-    print_kind(
+fn print_stepped(rt: &impl Print, tally: &[u64]) -> io::Result<()> {
+    print_kind(rt, 
         b"planned books of 1 slot, step above 1: ",
         tally,
         STEPPED + 1,
-    );
-    print_kind(
+    )?;
+    print_kind(rt, 
         b"planned books of 2 slots, a step above 1: ",
         tally,
         STEPPED + 2,
-    );
-    print_kind(
+    )?;
+    print_kind(rt, 
         b"planned books of 3 slots, a step above 1: ",
         tally,
         STEPPED + 3,
-    );
-    print_kind(
+    )?;
+    print_kind(rt, 
         b"planned books of 4 slots, a step above 1: ",
         tally,
         STEPPED + 4,
-    );
+    )
 }
 
-fn print_stepped_twice(tally: &[u64]) {
-    print_kind(
+fn print_stepped_twice(rt: &impl Print, tally: &[u64]) -> io::Result<()> {
+    print_kind(rt, 
         b"planned books of 2 slots, two steps above 1: ",
         tally,
         STEPPED_TWICE + 2,
-    );
-    print_kind(
+    )?;
+    print_kind(rt, 
         b"planned books of 3 slots, two steps above 1: ",
         tally,
         STEPPED_TWICE + 3,
-    );
-    print_kind(
+    )?;
+    print_kind(rt, 
         b"planned books of 4 slots, two steps above 1: ",
         tally,
         STEPPED_TWICE + 4,
-    );
+    )
 }
 
-fn print_loads(tally: &[u64]) {
-    print_kind(b"loads with 1 option: ", tally, LOADS + 1);
-    print_kind(b"loads with 2 options: ", tally, LOADS + 2);
-    print_kind(b"loads with 3 options: ", tally, LOADS + 3);
-    print_kind(b"loads that are the one before again: ", tally, TWINS);
-    print_kind(
+fn print_loads(rt: &impl Print, tally: &[u64]) -> io::Result<()> {
+    print_kind(rt, b"loads with 1 option: ", tally, LOADS + 1)?;
+    print_kind(rt, b"loads with 2 options: ", tally, LOADS + 2)?;
+    print_kind(rt, b"loads with 3 options: ", tally, LOADS + 3)?;
+    print_kind(rt, b"loads that are the one before again: ", tally, TWINS)?;
+    print_kind(rt, 
         b"loads with the Q of the one before turned about: ",
         tally,
         TWINS + 1,
-    );
+    )
 }
 
-fn print_pairs(tally: &[u64]) {
-    print_kind(b"pairs of P and Q: ", tally, PAIRS);
-    print_kind(b"pairs with Q below 0: ", tally, BELOW_ZERO);
-    print_kind(b"pairs with |Q| = P above 0: ", tally, AS_LARGE);
+fn print_pairs(rt: &impl Print, tally: &[u64]) -> io::Result<()> {
+    print_kind(rt, b"pairs of P and Q: ", tally, PAIRS)?;
+    print_kind(rt, b"pairs with Q below 0: ", tally, BELOW_ZERO)?;
+    print_kind(rt, b"pairs with |Q| = P above 0: ", tally, AS_LARGE)
 }
 
-fn print_faults(tally: &[u64]) {
-    print_kind(b"damaged books with one fault: ", tally, FAULTS + 1);
-    print_kind(b"damaged books with two faults: ", tally, FAULTS + 2);
+fn print_faults(rt: &impl Print, tally: &[u64]) -> io::Result<()> {
+    print_kind(rt, b"damaged books with one fault: ", tally, FAULTS + 1)?;
+    print_kind(rt, b"damaged books with two faults: ", tally, FAULTS + 2)
 }
 
 // What was drawn, by kind.
-fn print_drawn(tally: &[u64]) {
-    print_books(tally);
-    print_slots(tally);
-    print_stepped(tally);
-    print_stepped_twice(tally);
-    print_loads(tally);
-    print_pairs(tally);
-    print_faults(tally);
+fn print_drawn(rt: &impl Print, tally: &[u64]) -> io::Result<()> {
+    print_books(rt, tally)?;
+    print_slots(rt, tally)?;
+    print_stepped(rt, tally)?;
+    print_stepped_twice(rt, tally)?;
+    print_loads(rt, tally)?;
+    print_pairs(rt, tally)?;
+    print_faults(rt, tally)
 }
 
-pub fn print_tally(tally: &[u64]) {
-    print_drawn(tally);
-    print_answers(b"planner, number ", tally, PLANNER);
-    print_answers(b"quick planner, number ", tally, QUICK);
-    print_answers(b"sheet reader, number ", tally, READER);
-    print_kind(b"compared: ", tally, COMPARED);
-    print_kind(b"differ: ", tally, DIFFER);
+pub fn print_tally(rt: &impl Print, tally: &[u64]) -> io::Result<()> {
+    print_drawn(rt, tally)?;
+    print_answers(rt, b"planner, number ", tally, PLANNER)?;
+    print_answers(rt, b"quick planner, number ", tally, QUICK)?;
+    print_answers(rt, b"sheet reader, number ", tally, READER)?;
+    print_kind(rt, b"compared: ", tally, COMPARED)?;
+    print_kind(rt, b"differ: ", tally, DIFFER)
 }

@@ -2,7 +2,7 @@
 #![tactic(auto)]
 ghost use Rattle.std.specs.Prelude.{◌+◌, ◌≤◌, length};
 
-use libc::{STDERR_FILENO, STDIN_FILENO, STDOUT_FILENO};
+use std::io::{Print, Read};
 
 // How many bytes were read, and whether every read succeeded.
 #[derive(Clone, Copy)]
@@ -12,27 +12,28 @@ pub struct Taken {
 }
 
 // One read into buf from the byte `from` on.
-fn read_at(buf: &mut [u8], from: usize) -> Taken
+fn read_at<R: Read>(input: &mut R, buf: &mut [u8], from: usize) -> Taken
     requires { from ≤ length buf.old }
     ensures { from + result.count ≤ length buf.old }
 {
     let part = &mut buf[from..];
-    let got = libc::read(STDIN_FILENO, part);
-    let count = io::count(got, part);
-    Taken {
-        whole: 0 <= got,
-        count,
+    match input.read(part) {
+        Ok(count) => Taken { whole: true, count },
+        Err(_) => Taken {
+            whole: false,
+            count: 0,
+        },
     }
 }
 
 // Reads until buf is full or the input ends, in as many reads as it takes; stops at a read that fails.
-fn take_input(buf: &mut [u8]) -> Taken
+fn take_input<R: Read>(input: &mut R, buf: &mut [u8]) -> Taken
     ensures { result.count ≤ length buf.old }
 {
     let mut count: usize = 0;
     let mut whole = true;
     while count < buf.len() {
-        let more = read_at(buf, count);
+        let more = read_at(input, buf, count);
         whole = more.whole;
         if more.count == 0 {
             break;
@@ -43,19 +44,20 @@ fn take_input(buf: &mut [u8]) -> Taken
 }
 
 // A read that fails is told on standard error alone; the sheet or the refusal's line goes out in one piece.
-fn main() {
-    let mut input = io::buffer();
-    let taken = take_input(&mut input);
+fn main(rt: HostRuntime) {
+    let mut input = [0u8; 4096];
+    let taken = take_input(&mut rt.stdin(), &mut input);
     if !taken.whole {
-        io::write_all(STDERR_FILENO, b"loadplan: standard input cannot be read\n");
+        let _ = rt
+            .stderr()
+            .write_all(b"loadplan: standard input cannot be read\n");
         return;
     }
     let printed = program::output(&input[..taken.count]);
     let bytes = printed.bytes;
-    if !io::write_all(STDOUT_FILENO, &bytes[..printed.length]) {
-        io::write_all(
-            STDERR_FILENO,
-            b"loadplan: standard output cannot be written\n",
-        );
+    if rt.write_all(&bytes[..printed.length]).is_err() {
+        let _ = rt
+            .stderr()
+            .write_all(b"loadplan: standard output cannot be written\n");
     }
 }
