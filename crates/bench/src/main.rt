@@ -1,6 +1,7 @@
 // The bench: books from a seeded generator, on which the planner, the quick planner and the sheet reader are compared with a plain
 // enumeration over all codes that shares no function with them. Prints counts by kind, and how many answers differ.
 #![tactic(auto)]
+
 mod faults;
 mod plans;
 mod readings;

@@ -1,5 +1,6 @@
 // The book reader: the book in a slice of bytes, or the first of refusals 1 to 8 with its line.
 #![tactic(auto)]
+
 ghost use Rattle.std.specs.Prelude.{◌≡◌, ◌≤◌};
 ghost use Rattle.model.specs.declared.Finding.TheVariants.{Passed};
 ghost use Rattle.model.specs.Refusals.{first, refused};

@@ -1,9 +1,10 @@
 // Runs the planner, the strict planner, the quick planner, the sheet reader, the charge, the order of starting, the views, the day and pooling on fixed
 // books and sheets, and prints each answer. Every refusal is reached: 1 to 8 with its line, and 9 to 23. The stored output is what documents 01 and 02 say.
 #![tactic(auto)]
+
+use model::Answer;
 use std::io;
 use std::io::Print;
-use model::Answer;
 
 fn print(rt: &impl Print, text: &[u8]) -> io::Result<()> {
     rt.write_all(text)
@@ -25,7 +26,13 @@ fn print_numbers(rt: &impl Print, name: &[u8], call: &[u8], a: Answer) -> io::Re
 }
 
 // An answer, and the buffer as the call left it.
-fn print_answer(rt: &impl Print, name: &[u8], call: &[u8], a: Answer, sheet: &[u8]) -> io::Result<()> {
+fn print_answer(
+    rt: &impl Print,
+    name: &[u8],
+    call: &[u8],
+    a: Answer,
+    sheet: &[u8],
+) -> io::Result<()> {
     print_numbers(rt, name, call, a)?;
     print(rt, b"\n")?;
     print(rt, sheet)?;
@@ -37,12 +44,24 @@ fn quick_case(rt: &impl Print, name: &[u8], book: &[u8], sheet: &mut [u8]) -> io
     print_answer(rt, name, b": quick, number ", a, sheet)
 }
 
-fn plan_case(rt: &impl Print, name: &[u8], book: &[u8], work: &mut [u64], sheet: &mut [u8]) -> io::Result<()> {
+fn plan_case(
+    rt: &impl Print,
+    name: &[u8],
+    book: &[u8],
+    work: &mut [u64],
+    sheet: &mut [u8],
+) -> io::Result<()> {
     let a = planner::plan(book, work, sheet);
     print_answer(rt, name, b": plan, number ", a, sheet)
 }
 
-fn strict_case(rt: &impl Print, name: &[u8], book: &[u8], work: &mut [u64], sheet: &mut [u8]) -> io::Result<()> {
+fn strict_case(
+    rt: &impl Print,
+    name: &[u8],
+    book: &[u8],
+    work: &mut [u64],
+    sheet: &mut [u8],
+) -> io::Result<()> {
     let a = strict::plan_strict(book, work, sheet);
     print_answer(rt, name, b": strict, number ", a, sheet)
 }
@@ -63,30 +82,43 @@ fn refused_case(rt: &impl Print, name: &[u8], book: &[u8]) -> io::Result<()> {
 }
 
 // Refusals 1 to 3.
-fn unreadable_books(rt: &impl Print, ) -> io::Result<()> {
+fn unreadable_books(rt: &impl Print) -> io::Result<()> {
     refused_case(rt, b"torn, empty", b"")?;
-    refused_case(rt, 
+    refused_case(
+        rt,
         b"torn, load line",
         b"010102010000006400FF\n0201000300630000\n0201000300630000",
     )?;
     refused_case(rt, b"smudged", b"0101020100000064006g\n")?;
     refused_case(rt, b"stray, empty line", b"\n")?;
-    refused_case(rt, b"stray, kind", b"010101010000006400FF\n0301000300630000\n")
+    refused_case(
+        rt,
+        b"stray, kind",
+        b"010101010000006400FF\n0301000300630000\n",
+    )
 }
 
 // Refusals 4 and 5.
-fn misshapen_books(rt: &impl Print, ) -> io::Result<()> {
+fn misshapen_books(rt: &impl Print) -> io::Result<()> {
     refused_case(rt, b"crowded, T", b"0105010100000064000A000A000A000A000A\n")?;
-    refused_case(rt, b"crowded, o", b"010101010000006400FF\n0204000300630000\n")?;
+    refused_case(
+        rt,
+        b"crowded, o",
+        b"010101010000006400FF\n0204000300630000\n",
+    )?;
     refused_case(rt, b"misshapen", b"010101010000006400FF\n020100030063000\n")
 }
 
 // Refusals 6 to 8.
-fn invalid_books(rt: &impl Print, ) -> io::Result<()> {
+fn invalid_books(rt: &impl Print) -> io::Result<()> {
     refused_case(rt, b"beyond, N", b"01011901000000640064\n")?;
     refused_case(rt, b"beyond, d", b"01010141000000640064\n")?;
     refused_case(rt, b"slack", b"01010101000000640064\n020100010004FFFB\n")?;
-    refused_case(rt, b"trailing", b"01010101000000640064\n020100010004FFFC\n\n")
+    refused_case(
+        rt,
+        b"trailing",
+        b"01010101000000640064\n020100010004FFFC\n\n",
+    )
 }
 
 // The planner with the words that the example needs, with something in them.
@@ -108,14 +140,16 @@ fn plan_with_neither(rt: &impl Print, name: &[u8], book: &[u8]) -> io::Result<()
 }
 
 // Books that the planner refuses, also with two faults: the first of 9 to 12 counts, and the buffer stays as it is.
-fn refused_plans(rt: &impl Print, ) -> io::Result<()> {
+fn refused_plans(rt: &impl Print) -> io::Result<()> {
     let mut sheet = [46u8; 48];
     plan_with_neither(rt, b"torn", b"0101")?;
-    plan_with_neither(rt, 
+    plan_with_neither(
+        rt,
         b"oversize",
         b"0102014000000064FFFFFFFF\n020100010001000000010000\n",
     )?;
-    plan_with_less(rt, 
+    plan_with_less(
+        rt,
         b"cramped",
         b"0101030400000064000A\n0201000500050005\n020100050004FFFC\n0201000400040000\n",
         &mut sheet,
@@ -123,7 +157,7 @@ fn refused_plans(rt: &impl Print, ) -> io::Result<()> {
 }
 
 // The same with a budget of one trial less than the example takes.
-fn refused_budgets(rt: &impl Print, ) -> io::Result<()> {
+fn refused_budgets(rt: &impl Print) -> io::Result<()> {
     let book = b"010103040000000D000A\n0201000500050005\n020100050004FFFC\n0201000400040000\n";
     let mut short = [46u8; 47];
     let mut sheet = [46u8; 48];
@@ -134,28 +168,32 @@ fn refused_budgets(rt: &impl Print, ) -> io::Result<()> {
 
 // Plans: document 01's example at its very budget, and loads that just fit, just do not, or draw nothing. Each finds the words as the one
 // before left them.
-fn plans(rt: &impl Print, ) -> io::Result<()> {
+fn plans(rt: &impl Print) -> io::Result<()> {
     let mut work = [77u64; 1056];
     let mut sheet = [46u8; 60];
-    plan_case(rt, 
+    plan_case(
+        rt,
         b"budget 14",
         b"010103040000000E000A\n0201000500050005\n020100050004FFFC\n0201000400040000\n",
         &mut work,
         &mut sheet,
     )?;
-    plan_case(rt, 
+    plan_case(
+        rt,
         b"both run",
         b"01010201000000640064\n0201000300630000\n0201000300630000\n",
         &mut work,
         &mut sheet,
     )?;
-    plan_case(rt, 
+    plan_case(
+        rt,
         b"the smaller code",
         b"01010201000000640064\n0201000300640000\n0201000300640000\n",
         &mut work,
         &mut sheet,
     )?;
-    plan_case(rt, 
+    plan_case(
+        rt,
         b"limit 0",
         b"01010201000000640000\n0201000100000000\n0201000100010000\n",
         &mut work,
@@ -165,26 +203,29 @@ fn plans(rt: &impl Print, ) -> io::Result<()> {
 
 // Loads that draw where they stand, of lines of kind 06: more than the limit in every choice, with the budget that the trials take and one less;
 // more than where they run; and so much that a load passed over by the quick planner would fit later.
-fn standing_plans(rt: &impl Print, ) -> io::Result<()> {
+fn standing_plans(rt: &impl Print) -> io::Result<()> {
     let mut work = [77u64; 1056];
     let mut sheet = [46u8; 60];
     let none = b"0101020A00000002000A\n0601000B00000005000B0000\n0601000B00000005000B0000\n";
     plan_case(rt, b"no plan", none, &mut work, &mut sheet)?;
     quick_case(rt, b"no plan", none, &mut sheet)?;
-    plan_case(rt, 
+    plan_case(
+        rt,
         b"spent, no plan",
         b"0101020A00000001000A\n0601000B00000005000B0000\n0601000B00000005000B0000\n",
         &mut work,
         &mut sheet,
     )?;
-    plan_case(rt, 
+    plan_case(
+        rt,
         b"runs to draw less",
         b"0101010A00000064000A\n0601000B0000000000060000\n",
         &mut work,
         &mut sheet,
     )?;
     let later = b"0101020500000064000A\n0201000500030000\n060100080000000500040000\n";
-    plan_case(rt, 
+    plan_case(
+        rt,
         b"both run, one draws standing",
         later,
         &mut work,
@@ -195,14 +236,15 @@ fn standing_plans(rt: &impl Print, ) -> io::Result<()> {
 
 // A load that must run, of a line of kind 07: it crowds out a better choice, and a sheet on which it stands is foreign; and one that is over the
 // limit at each level, which leaves the sheet before it in the buffer.
-fn must_run_plans(rt: &impl Print, ) -> io::Result<()> {
+fn must_run_plans(rt: &impl Print) -> io::Result<()> {
     let mut work = [77u64; 1056];
     let mut sheet = [46u8; 60];
     let book =
         b"0101030500000064000A\n0201000900040000\n0702000100050000000300060000\n0201000400030000\n";
     plan_case(rt, b"must run", book, &mut work, &mut sheet)?;
     quick_case(rt, b"must run", book, &mut sheet)?;
-    reader_case(rt, 
+    reader_case(
+        rt,
         b"foreign, it stands",
         book,
         b"040000000D00000014010001\n050000000700000000000A\n",
@@ -214,19 +256,21 @@ fn must_run_plans(rt: &impl Print, ) -> io::Result<()> {
 
 // Loads with |Q| above P, under a header of kind 08: two that cancel, each of which breaks the limit alone, and the same under kind 01; r = 4; such a header
 // without its ratio; and |Q| one above 3 × P.
-fn ratio_plans(rt: &impl Print, ) -> io::Result<()> {
+fn ratio_plans(rt: &impl Print) -> io::Result<()> {
     let mut work = [77u64; 3124];
     let mut sheet = [46u8; 60];
     let book = b"080102040300000064000A\n020100050004000C\n020100050004FFF4\n";
     plan_case(rt, b"they cancel", book, &mut work, &mut sheet)?;
     quick_case(rt, b"they cancel", book, &mut sheet)?;
-    refused_case(rt, 
+    refused_case(
+        rt,
         b"slack, kind 01",
         b"0101020400000064000A\n020100050004000C\n020100050004FFF4\n",
     )?;
     refused_case(rt, b"beyond, r", b"0801010104000000640064\n")?;
     refused_case(rt, b"misshapen, kind 08", b"08010101030000640064\n")?;
-    refused_case(rt, 
+    refused_case(
+        rt,
         b"slack, r = 3",
         b"0801010103000000640064\n020100010004FFF3\n",
     )
@@ -234,7 +278,7 @@ fn ratio_plans(rt: &impl Print, ) -> io::Result<()> {
 
 // The strict planner: a book on which the plain one goes above the limit; and one of which the compared choice does, though another with its pairs fits, and
 // the same with a trial less in the budget.
-fn strict_plans(rt: &impl Print, ) -> io::Result<()> {
+fn strict_plans(rt: &impl Print) -> io::Result<()> {
     let mut work = [77u64; 8192];
     let mut sheet = [46u8; 60];
     let mill = b"010103080000006414B9\n0201003C08A1060A\n0201002806E70450\n0201001904500373\n";
@@ -248,7 +292,7 @@ fn strict_plans(rt: &impl Print, ) -> io::Result<()> {
 }
 
 // A word too few; a byte too few; and d = 1, with too few of both.
-fn refused_strictly(rt: &impl Print, ) -> io::Result<()> {
+fn refused_strictly(rt: &impl Print) -> io::Result<()> {
     let mut cramped = [77u64; 71];
     let mut work = [77u64; 72];
     let mut sheet = [46u8; 43];
@@ -261,7 +305,8 @@ fn refused_strictly(rt: &impl Print, ) -> io::Result<()> {
 
 // The sheet reader on document 01's example and a sheet.
 fn example_case(rt: &impl Print, name: &[u8], sheet: &[u8]) -> io::Result<()> {
-    reader_case(rt, 
+    reader_case(
+        rt,
         name,
         b"0101030400000064000A\n0201000500050005\n020100050004FFFC\n0201000400040000\n",
         sheet,
@@ -269,43 +314,50 @@ fn example_case(rt: &impl Print, name: &[u8], sheet: &[u8]) -> io::Result<()> {
 }
 
 // Sheets that belong to the book.
-fn own_sheets(rt: &impl Print, ) -> io::Result<()> {
-    example_case(rt, 
+fn own_sheets(rt: &impl Print) -> io::Result<()> {
+    example_case(
+        rt,
         b"quick sheet",
         b"040000000900000003000101\n0500000008FFFFFFFC000A\n",
     )?;
-    example_case(rt, 
+    example_case(
+        rt,
         b"plan",
         b"040000000A0000000E010100\n050000000900000001000A\n",
     )
 }
 
 // Sheets that do not.
-fn foreign_sheets(rt: &impl Print, ) -> io::Result<()> {
-    example_case(rt, 
+fn foreign_sheets(rt: &impl Print) -> io::Result<()> {
+    example_case(
+        rt,
         b"foreign, c above o",
         b"040000000A0000000E020100\n050000000900000001000A\n",
     )?;
-    example_case(rt, 
+    example_case(
+        rt,
         b"foreign, sum",
         b"040000000A0000000E010100\n050000000800000001000A\n",
     )?;
-    example_case(rt, 
+    example_case(
+        rt,
         b"foreign, worth",
         b"040000000B0000000E010100\n050000000900000001000A\n",
     )?;
-    example_case(rt, 
+    example_case(
+        rt,
         b"foreign, short",
         b"040000000A0000000E010100\n050000000900000001000A",
     )?;
-    example_case(rt, 
+    example_case(
+        rt,
         b"foreign, long",
         b"040000000A0000000E010100\n050000000900000001000A\n\n",
     )
 }
 
 // The quick planner on document 01's example, with a buffer that is too small and with a larger one.
-fn quick_sheets(rt: &impl Print, ) -> io::Result<()> {
+fn quick_sheets(rt: &impl Print) -> io::Result<()> {
     let book = b"0101030400000064000A\n0201000500050005\n020100050004FFFC\n0201000400040000\n";
     let mut short = [46u8; 47];
     quick_case(rt, b"no sheet", book, &mut short)?;
@@ -324,7 +376,7 @@ fn charge_case(rt: &impl Print, name: &[u8], sheet: &[u8], prices: &[u16]) -> io
 }
 
 // P = 9 at the price 20 is four hundredths and a half, which goes to the even four; then a price too many, and no price with a foreign sheet.
-fn charges(rt: &impl Print, ) -> io::Result<()> {
+fn charges(rt: &impl Print) -> io::Result<()> {
     let sheet = b"040000000A0000000E010100\n050000000900000001000A\n";
     let prices = [20u16; 2];
     charge_case(rt, b"a half", sheet, &prices[..1])?;
@@ -360,7 +412,13 @@ fn order_case(rt: &impl Print, name: &[u8], names: &[u8], order: &mut [u8]) -> i
 }
 
 // The same, where loads 1 and 2 name these.
-fn named_case(rt: &impl Print, name: &[u8], first: u8, second: u8, order: &mut [u8]) -> io::Result<()> {
+fn named_case(
+    rt: &impl Print,
+    name: &[u8],
+    first: u8,
+    second: u8,
+    order: &mut [u8],
+) -> io::Result<()> {
     let mut names = [0u8; 3];
     names[0] = first;
     names[1] = second;
@@ -368,7 +426,7 @@ fn named_case(rt: &impl Print, name: &[u8], first: u8, second: u8, order: &mut [
 }
 
 // A load that names itself; one whose named load stops; then load 1 names load 2, with a buffer of one byte and of two.
-fn orders(rt: &impl Print, ) -> io::Result<()> {
+fn orders(rt: &impl Print) -> io::Result<()> {
     let mut one = [46u8; 1];
     let mut two = [46u8; 2];
     named_case(rt, b"own number", 1, 0, &mut two)?;
@@ -387,7 +445,7 @@ fn view_case(rt: &impl Print, name: &[u8], sheet: &[u8], view: &mut [u8]) -> io:
 }
 
 // The plan, on which load 3 stands: with a byte too few for the mill, and with room to spare; and a foreign sheet with no room at all.
-fn views(rt: &impl Print, ) -> io::Result<()> {
+fn views(rt: &impl Print) -> io::Result<()> {
     let sheet = b"040000000A0000000E010100\n050000000900000001000A\n";
     let mut short = [46u8; 18];
     let mut view = [46u8; 24];
@@ -405,7 +463,7 @@ fn day_case(rt: &impl Print, name: &[u8], books: &[u8], out: &mut [u8]) -> io::R
 
 // Document 01's example, a misshapen book and an empty one: with a byte too few, and with one to spare. Then 32 empty books, which do not fit, and 33
 // with no room at all.
-fn days(rt: &impl Print, ) -> io::Result<()> {
+fn days(rt: &impl Print) -> io::Result<()> {
     let mut short = [46u8; 65];
     let mut out = [46u8; 67];
     let books =
@@ -418,14 +476,20 @@ fn days(rt: &impl Print, ) -> io::Result<()> {
 }
 
 // Two books, and the buffer as the call left it.
-fn pool_case(rt: &impl Print, name: &[u8], first: &[u8], second: &[u8], pooled: &mut [u8]) -> io::Result<()> {
+fn pool_case(
+    rt: &impl Print,
+    name: &[u8],
+    first: &[u8],
+    second: &[u8],
+    pooled: &mut [u8],
+) -> io::Result<()> {
     let a = pool::pool(first, second, pooled);
     print_answer(rt, name, b": pool, number ", a, pooled)
 }
 
 // Two mills of a limit of 5 and a load of (4, 4) and (4, -4), of which neither fits alone: with a byte too few, and with just enough; then the pooled plan, on
 // which both run.
-fn pools(rt: &impl Print, ) -> io::Result<()> {
+fn pools(rt: &impl Print) -> io::Result<()> {
     let first = b"01010104000000640005\n0201000500040004\n";
     let second = b"080101040300000C800005\n020100040004FFFC\n";
     let mut short = [46u8; 56];
@@ -439,7 +503,7 @@ fn pools(rt: &impl Print, ) -> io::Result<()> {
 
 // Both books torn, of which the first's fault is given; the second torn, whose line counts on; another d, with loads too many; as many loads; and limits too
 // large, with no room at all.
-fn refused_pools(rt: &impl Print, ) -> io::Result<()> {
+fn refused_pools(rt: &impl Print) -> io::Result<()> {
     let mill = b"0101010400000064FFFF\n0201000500040004\n";
     let many =
         b"01010D010000006400FF\n0201000000000000\n0201000000000000\n0201000000000000\n0201000000000000\n0201000000000000\n0201000000000000\n0201000000000000\n0201000000000000\n0201000000000000\n0201000000000000\n0201000000000000\n0201000000000000\n0201000000000000\n";
@@ -452,25 +516,25 @@ fn refused_pools(rt: &impl Print, ) -> io::Result<()> {
 }
 
 fn main(rt: HostRuntime) -> io::Result<()> {
-    unreadable_books(&rt, )?;
-    misshapen_books(&rt, )?;
-    invalid_books(&rt, )?;
-    quick_sheets(&rt, )?;
-    own_sheets(&rt, )?;
-    foreign_sheets(&rt, )?;
+    unreadable_books(&rt)?;
+    misshapen_books(&rt)?;
+    invalid_books(&rt)?;
+    quick_sheets(&rt)?;
+    own_sheets(&rt)?;
+    foreign_sheets(&rt)?;
     reader_case(&rt, b"torn book", b"0101", b"")?;
-    refused_plans(&rt, )?;
-    refused_budgets(&rt, )?;
-    plans(&rt, )?;
-    standing_plans(&rt, )?;
-    must_run_plans(&rt, )?;
-    ratio_plans(&rt, )?;
-    strict_plans(&rt, )?;
-    refused_strictly(&rt, )?;
-    charges(&rt, )?;
-    orders(&rt, )?;
-    views(&rt, )?;
-    days(&rt, )?;
-    pools(&rt, )?;
-    refused_pools(&rt, )
+    refused_plans(&rt)?;
+    refused_budgets(&rt)?;
+    plans(&rt)?;
+    standing_plans(&rt)?;
+    must_run_plans(&rt)?;
+    ratio_plans(&rt)?;
+    strict_plans(&rt)?;
+    refused_strictly(&rt)?;
+    charges(&rt)?;
+    orders(&rt)?;
+    views(&rt)?;
+    days(&rt)?;
+    pools(&rt)?;
+    refused_pools(&rt)
 }

@@ -1,5 +1,6 @@
 // The choice on a sheet: a sheet is read against a book, to the choice and the trials of one that belongs to it.
 #![tactic(auto)]
+
 ghost use Rattle.std.specs.Prelude.{◌≡◌, false, length};
 ghost use Rattle.model.specs.Sheet.{sheet_bytes, sheet_length};
 ghost use Rattle.model.specs.Values.{Held, Picked, choice_of, problem_of};

@@ -1,5 +1,6 @@
 // Asks the planners and the sheet reader, and compares each answer, the sheet buffer and the work area with what is wanted.
 #![tactic(auto)]
+
 use model::{Answer, SheetAnswer};
 use plain::{at, both, byte_at, count, plus, put};
 

@@ -2,6 +2,7 @@
 // document 01's order the answer is that of the earlier line, and on one line the lower number. A function that draws gives the seed
 // after, and one that changes a line its new end: as a drawn number, where it does both.
 #![tactic(auto)]
+
 use fields::{put_header, put_load};
 use plain::{
     Drawn, byte_at, greater, lesser, minus, plus, put_byte, put_end, put_number, rest, roll,

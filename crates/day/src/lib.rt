@@ -1,5 +1,6 @@
 // A day's books at once: the planner's answer to each of them, in the form in which the program prints it, one after the other, or refusals 18 and 19.
 #![tactic(auto)]
+
 ghost use Rattle.std.specs.Prelude.{◌≡◌, true, ◌+◌, ◌*◌, ◌≤◌, length, drop};
 ghost use Rattle.model.specs.Answers.{Writes};
 ghost use Rattle.model.specs.Bounds.{most_sheet};

@@ -1,5 +1,6 @@
 // The generator of books, from a seed, and the counts of what it drew. Each function that draws gives the seed after.
 #![tactic(auto)]
+
 use plain::{Drawn, at, greater, lesser, minus, over, plus, put, rest, roll, roll_from, times};
 
 mod count;

@@ -1,5 +1,6 @@
 // What document 01 says of a book, found by trying every choice, and a choice's sheet as text. Shares no function with the planner.
 #![tactic(auto)]
+
 mod enumerate;
 mod sheet;
 

@@ -2,6 +2,7 @@
 // numbers for each load: how it was drawn, o, and for each of three options its worth and, for each of four slots, P and Q, Q as 16
 // bits. The budget stands beside it.
 #![tactic(auto)]
+
 use plain::{at, greater, minus, one_if, over, plus, times};
 
 mod text;

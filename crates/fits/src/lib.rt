@@ -1,5 +1,6 @@
 // Whether a book's table and sheet fit what is lent: refusals 9 to 11.
 #![tactic(auto)]
+
 ghost use Rattle.std.specs.Prelude.{◌≡◌};
 ghost use Rattle.model.specs.Refusals.{first};
 ghost use Rattle.model.specs.Trials.{cells};

@@ -1,5 +1,6 @@
 // What the search finds: the trials of a book whose table fits the work area, and the plan's code or that there is no plan.
 #![tactic(auto)]
+
 ghost use Rattle.std.specs.Prelude.{◌≤◌, length};
 ghost use Rattle.model.specs.Grid.{slots_of};
 ghost use Rattle.model.specs.Trials.{needed_words, WordsKept};

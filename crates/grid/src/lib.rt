@@ -1,5 +1,6 @@
 // The geometry of a book's table: the step and the sizes of each slot, and the rows, columns and cells that they come to.
 #![tactic(auto)]
+
 ghost use Rattle.std.specs.Prelude.{◌≡◌, ℕ, ◌≤◌};
 ghost use Rattle.model.specs.Bounds.{most_loads, most_fineness, most_ratio};
 ghost use Rattle.model.specs.Grid.{step_for, slot_at};

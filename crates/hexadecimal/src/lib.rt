@@ -1,5 +1,6 @@
 // Hexadecimal digits, numbers and lines in a slice of bytes, read, written and copied; whether a number is in its range and a line of a kind that is due.
 #![tactic(auto)]
+
 ghost use Rattle.std.specs.Prelude.{◌≡◌, not, map, ◌+◌, ◌*◌, ◌≤◌, ◌<◌, length};
 ghost use Rattle.model.specs.Lists.{all, within, concat};
 ghost use Rattle.model.specs.Frames.{is_digit, digit_value, digit, field, digits, line_length};

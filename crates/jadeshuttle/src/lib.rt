@@ -1,6 +1,7 @@
 // The public calls for programs in C and other languages: the planner, the strict planner, the quick planner, the sheet reader, the charge, the
 // order of starting, what the mill and the supply company see, a day's books at once, and one book for two mills.
 #![tactic(auto)]
+
 ghost use Rattle.std.specs.Prelude.{◌≡◌, ◌≤◌, length, take};
 ghost use Rattle.model.specs.Trials.{WordsKept};
 ghost use Rattle.model.specs.Answers.{Writes};

@@ -1,8 +1,9 @@
 // Where each count stands in the tally, and how the tally is printed.
 #![tactic(auto)]
+
+use plain::{at, plus};
 use std::io;
 use std::io::Print;
-use plain::{at, plus};
 
 // Answers by the number that is due: those of the planner, the quick planner and the sheet reader.
 pub const PLANNER: u64 = 0;
@@ -95,22 +96,26 @@ fn print_slots(rt: &impl Print, tally: &[u64]) -> io::Result<()> {
 }
 
 fn print_stepped(rt: &impl Print, tally: &[u64]) -> io::Result<()> {
-    print_kind(rt, 
+    print_kind(
+        rt,
         b"planned books of 1 slot, step above 1: ",
         tally,
         STEPPED + 1,
     )?;
-    print_kind(rt, 
+    print_kind(
+        rt,
         b"planned books of 2 slots, a step above 1: ",
         tally,
         STEPPED + 2,
     )?;
-    print_kind(rt, 
+    print_kind(
+        rt,
         b"planned books of 3 slots, a step above 1: ",
         tally,
         STEPPED + 3,
     )?;
-    print_kind(rt, 
+    print_kind(
+        rt,
         b"planned books of 4 slots, a step above 1: ",
         tally,
         STEPPED + 4,
@@ -118,17 +123,20 @@ fn print_stepped(rt: &impl Print, tally: &[u64]) -> io::Result<()> {
 }
 
 fn print_stepped_twice(rt: &impl Print, tally: &[u64]) -> io::Result<()> {
-    print_kind(rt, 
+    print_kind(
+        rt,
         b"planned books of 2 slots, two steps above 1: ",
         tally,
         STEPPED_TWICE + 2,
     )?;
-    print_kind(rt, 
+    print_kind(
+        rt,
         b"planned books of 3 slots, two steps above 1: ",
         tally,
         STEPPED_TWICE + 3,
     )?;
-    print_kind(rt, 
+    print_kind(
+        rt,
         b"planned books of 4 slots, two steps above 1: ",
         tally,
         STEPPED_TWICE + 4,
@@ -140,7 +148,8 @@ fn print_loads(rt: &impl Print, tally: &[u64]) -> io::Result<()> {
     print_kind(rt, b"loads with 2 options: ", tally, LOADS + 2)?;
     print_kind(rt, b"loads with 3 options: ", tally, LOADS + 3)?;
     print_kind(rt, b"loads that are the one before again: ", tally, TWINS)?;
-    print_kind(rt, 
+    print_kind(
+        rt,
         b"loads with the Q of the one before turned about: ",
         tally,
         TWINS + 1,

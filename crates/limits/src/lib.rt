@@ -1,5 +1,6 @@
 // Whether sums keep limits, whether those of a choice keep its book's, and whether the choice of a code does.
 #![tactic(auto)]
+
 ghost use Rattle.std.specs.Prelude.{◌≡◌, ℕ, ◌<◌, ◌≤◌, length, get_or};
 ghost use Rattle.model.specs.Lists.{Every};
 ghost use Rattle.model.specs.Bounds.{most_slots, most_loads, most_limit};

@@ -1,5 +1,6 @@
 // The program: reads one book from standard input and prints the planner's sheet, or the line of its refusal.
 #![tactic(auto)]
+
 ghost use Rattle.std.specs.Prelude.{◌+◌, ◌≤◌, length};
 
 use std::io::{Print, Read};

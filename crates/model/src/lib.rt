@@ -1,5 +1,6 @@
 // The declared types of the load planner. What a value of each says is defined in specs/.
 #![tactic(auto)]
+
 ghost use Rattle.std.specs.Prelude.{◌≡◌, ◌+◌, ◌-◌, []};
 ghost use Rattle.model.specs.Refusals.{number_of};
 ghost use Rattle.model.specs.Answers.{success_answer, refusal_answer};

@@ -1,5 +1,6 @@
 // What each setting of a book does to a cell of the table.
 #![tactic(auto)]
+
 ghost use Rattle.std.specs.Prelude.{◌≡◌, [], ℕ, ◌+◌, ◌^◌, ◌<◌, ◌≤◌, get_or};
 ghost use Rattle.model.specs.Grid.{floor_div};
 ghost use Rattle.model.specs.Choice.{setting_of};

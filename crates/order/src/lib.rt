@@ -1,6 +1,7 @@
 // The order of starting: the loads that start when the new sheet follows the running one, each after the load that it names where that starts too, or
 // refusals 13, 15, 16 and 11; the book's own refusals come first.
 #![tactic(auto)]
+
 ghost use Rattle.std.specs.Prelude.{◌≡◌, ◌≤◌, length};
 ghost use Rattle.model.specs.Answers.{bytes_only, buffer_after};
 ghost use Rattle.model.specs.Bounds.{most_loads};

@@ -2,6 +2,7 @@
 // setting in ascending order, the row that lies as far back as the setting's active powers say. Of each row only a stretch of columns
 // counts.
 #![tactic(auto)]
+
 ghost use Rattle.std.specs.Prelude.{◌≡◌, true, ◌<◌, length};
 ghost use Rattle.model.specs.Bounds.{most_rows};
 ghost use Rattle.table.specs.Table.{Rows};

@@ -1,5 +1,6 @@
 // The planner: the sheet of the plan, or the first refusal of 1 to 12 and 17. Which plan a book has goes by the test of the search.
 #![tactic(auto)]
+
 ghost use Rattle.std.specs.Prelude.{◌≡◌, ◌≤◌, length};
 ghost use Rattle.model.specs.Grid.{slots_of};
 ghost use Rattle.model.specs.Trials.{needed_words, WordsKept};

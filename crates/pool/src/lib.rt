@@ -1,5 +1,6 @@
 // Two mills on one transformer: the book that pools two, or the first refusal of the one, of the other with its lines counted on, 21 to 23, or 11.
 #![tactic(auto)]
+
 ghost use Rattle.std.specs.Prelude.{◌≡◌, map, ℕ, ◌+◌, ◌*◌, ◌^◌, ◌<◌, ◌≤◌, max, ltb, length, get_or, take};
 ghost use Rattle.model.specs.Lists.{upto, any};
 ghost use Rattle.model.specs.Bounds.{most_slots, most_limit, most_book};

@@ -1,5 +1,6 @@
 // What is printed of a planner's answer: its sheet, or the line of a refusal.
 #![tactic(auto)]
+
 ghost use Rattle.std.specs.Prelude.{◌≡◌, ◌≤◌, length};
 ghost use Rattle.model.specs.Program.{refusal_line, printed_from};
 ghost use Rattle.hexadecimal.specs.Written.{written};

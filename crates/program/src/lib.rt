@@ -1,5 +1,6 @@
 // What the program prints for its input.
 #![tactic(auto)]
+
 ghost use Rattle.std.specs.Prelude.{◌≡◌, ◌≤◌, length, replicate};
 ghost use Rattle.model.specs.Bounds.{most_sheet, program_bytes, program_words};
 ghost use Rattle.model.specs.Program.{program_output};

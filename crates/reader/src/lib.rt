@@ -1,5 +1,6 @@
 // The sheet reader: the code, worth and trials of a sheet that belongs to a book, or refusal 13; the book's own refusals come first.
 #![tactic(auto)]
+
 ghost use Rattle.std.specs.Prelude.{◌≡◌};
 ghost use Rattle.model.specs.SheetReader.{sheet_data, reader_result, sheet_answer_of};
 ghost use Rattle.model.specs.Values.{Held, problem_of};

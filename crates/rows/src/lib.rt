@@ -1,5 +1,6 @@
 // One row of the next layer: it is opened, and is then offered what each setting brings there.
 #![tactic(auto)]
+
 ghost use Rattle.std.specs.Prelude.{◌≡◌, true, ◌+◌, ◌-◌, ◌*◌, ◌^◌, ◌<◌, ◌≤◌};
 ghost use Rattle.table.specs.Table.{Rows};
 ghost use Rattle.stretch.specs.Stretch.{move_of, GridFits, StretchesFit, MoveFits, LoadFits, Spans};

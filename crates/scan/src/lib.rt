@@ -1,5 +1,6 @@
 // The last step of the planner: the best cell of the last layer that passes a test.
 #![tactic(auto)]
+
 ghost use Rattle.std.specs.Prelude.{◌≡◌, ℕ, ◌+◌, ◌*◌, ◌<◌, ◌≤◌, length};
 ghost use Rattle.model.specs.Grid.{slots_of};
 ghost use Rattle.model.specs.Cells.{join, join_upto, passing};

@@ -1,5 +1,6 @@
 // The search: the passes of all loads, the layers changing places after each, and the trials counted on the way.
 #![tactic(auto)]
+
 ghost use Rattle.std.specs.Prelude.{◌≡◌, ◌+◌, ◌*◌, ◌<◌, ◌≤◌, length, drop};
 ghost use Rattle.model.specs.Bounds.{most_settings, most_cells};
 ghost use Rattle.table.specs.Table.{put_at};

@@ -1,5 +1,6 @@
 // The sheet of a choice, written into a lent buffer.
 #![tactic(auto)]
+
 ghost use Rattle.std.specs.Prelude.{◌≡◌, ◌≤◌, length};
 ghost use Rattle.model.specs.Refusals.{done};
 ghost use Rattle.model.specs.Answers.{Writes};

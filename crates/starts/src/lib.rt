@@ -1,6 +1,7 @@
 // The loads that start when one choice follows another: their masks and how many they are, the names that are refused (15 and 16), and the load that is
 // started next. A choice is an array of the loads' numbers c; load k + 1 is at place k.
 #![tactic(auto)]
+
 ghost use Rattle.std.specs.Prelude.{◌≡◌, ◌^◌, ◌≤◌, ◌<◌, length};
 ghost use Rattle.std.specs.Int.Count.{ones};
 ghost use Rattle.model.specs.Bounds.{most_loads};

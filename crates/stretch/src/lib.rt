@@ -1,5 +1,6 @@
 // What a setting does to a cell, and how far a load's settings reach: the stretch of columns of each row, and the rows.
 #![tactic(auto)]
+
 ghost use Rattle.std.specs.Prelude.{◌≡◌, ℕ, ◌+◌, ◌<◌, ◌≤◌, get_or};
 ghost use Rattle.model.specs.Bounds.{most_slots, most_settings, most_cells};
 ghost use Rattle.stretch.specs.Stretch.{covers_from, GridFits, StretchesFit, MoveFits, LoadFits, Clipped, Part, Joined, Spans, Reaches};

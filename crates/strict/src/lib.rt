@@ -1,5 +1,6 @@
 // The strict planner (document 02, M-109): the sheet of the strict plan, which never goes above a limit, or the first refusal of 1 to 8, 20, 9 to 12 and 17.
 #![tactic(auto)]
+
 ghost use Rattle.std.specs.Prelude.{◌≡◌, length};
 ghost use Rattle.model.specs.Trials.{WordsKept};
 ghost use Rattle.model.specs.Answers.{Writes};

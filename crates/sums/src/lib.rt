@@ -1,5 +1,6 @@
 // The true sums of a choice in each slot, its worth and its code, as running values; and the numbers of a code.
 #![tactic(auto)]
+
 ghost use Rattle.std.specs.Prelude.{◌≡◌, [], ◌≤◌, take};
 ghost use Rattle.model.specs.Bounds.{most_loads};
 ghost use Rattle.model.specs.Choice.{worth_of, code_of, decode};

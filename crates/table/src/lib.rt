@@ -1,5 +1,6 @@
 // Cells in a lent slice of words, two words a cell: read, stored, offered a choice, counted and emptied.
 #![tactic(auto)]
+
 ghost use Rattle.std.specs.Prelude.{◌≡◌, ◌+◌, ◌*◌, ◌<◌, ◌≤◌, length, cond, true, ltb};
 ghost use Rattle.model.specs.Cells.{count_upto};
 ghost use Rattle.table.specs.Table.{cell_at, put_at, offered, offered_at, Room, Rows, Roomy, Filled, offered_row, copied_row, carried_row, no_cell, reached};

@@ -1,6 +1,7 @@
 // What the mill and the supply company see of a sheet: the worth and the running loads, and the slot lines, or refusals 13 and 11; the book's own
 // refusals come first.
 #![tactic(auto)]
+
 ghost use Rattle.std.specs.Prelude.{◌≡◌, suc, ◌+◌, ◌≤◌, ◌<◌, length};
 ghost use Rattle.model.specs.Answers.{Writes, in_room};
 ghost use Rattle.model.specs.Bounds.{most_loads};

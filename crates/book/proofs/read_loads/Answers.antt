@@ -46,7 +46,7 @@ passed c =
     let n = c.line_length-n.result in
     let en : n ≡ line_length (drop l.at a.s.now) = length-is a.s.now l.at n l.invariant.0 c.line_length-n.ensures in
     (rw length-drop (omega arith), line-is a.s.now l.at n en, c.load_finding-finding.ensures ∙ ap (λ x. first (load_rules a.slots a.ratio x)) (line-is a.s.now l.at n en)) in
-     sym (line).2 ∙ c.in_default.is
+    sym (line).2 ∙ c.in_default.is
 
 pub number-options-requires : goal.number-options-requires
 number-options-requires c =

@@ -21,7 +21,6 @@ module _ (c : goal.After-book_end-from) where
   one_less : length (books_left from books) ≡ suc (length (books_left (c.book_end-from.result + 1) books))
   one_less = ap length (left_next from c.book_end-from.result books (omega arith) c.book_end-from.ensures)
 
-
 pub overflow_add-from : goal.overflow_add-from
 overflow_add-from c = omega (arith, within c)
 

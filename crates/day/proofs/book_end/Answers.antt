@@ -19,7 +19,7 @@ pub loop-at-preserved : goal.loop-at-preserved
 loop-at-preserved c =
     let l = c.loop-at in
     elim c.else-starts.branch [
-      else-starts-via-then-starts+else-ends w ↦ (search rules, end_later _ _ l.at _ l.invariant.1 (search rules) (ap₂ ◌&&◌ w.if-starts.true w.if-ends.false-raw))
+      | else-starts-via-then-starts+else-ends w ↦ (search rules, end_later _ _ l.at _ l.invariant.1 (search rules) (ap₂ ◌&&◌ w.if-starts.true w.if-ends.false-raw))
       | else-starts-via-else-starts w ↦ (search rules, end_later _ _ l.at _ l.invariant.1 (search rules) (sym (when_false _ _ w.if-starts.false)))
     ]
 

@@ -44,11 +44,10 @@ returns-clause-result c =
     let w = c.write_books-length in
     let out = c.args.out.now in
     given_writes (books_of c.args.books.now) (length c.args.work.now) out _ w.result _ _ _ few c.write_books-length.ensures.length (omega arith) c.write_books-length.ensures.bytes
-          c.copy.ensures c.success.ensures
+    c.copy.ensures c.success.ensures
 
 pub returns-clause-words : goal.returns-clause-words
 returns-clause-words c =
     let w = c.write_books-length in
     subst (λ m. WordsKept m c.args.work.now w.new.work)
     (few-free c.args.books.now (length c.args.work.now) (omega (arith, c.book_count.ensures, c.if-book_count-gt-BOOKS.false))) w.ensures.words
-

@@ -28,7 +28,7 @@ returns-then-budget-trials-clause-found c =
     let loads = l.ensures (laid c.args.book c.requires.held c.args.grid c.requires.grid_is) in
     let r = c.search-ran in
     found-over c.args.book c.requires.held c.args.grid c.requires.grid_is l.result loads c.args.test _ _ _ _ _
-          (c.search-ran.ensures.searched (model c.args.book c.requires.held c.args.grid c.requires.grid_is l.result loads)) c.if-budget-trials.true _ 0
+    (c.search-ran.ensures.searched (model c.args.book c.requires.held c.args.grid c.requires.grid_is l.result loads)) c.if-budget-trials.true _ 0
 
 pub returns-then-budget-trials-clause-words : goal.returns-then-budget-trials-clause-words
 unfolding laid
@@ -78,7 +78,7 @@ returns-clause-found c =
     let loads = l.ensures (laid c.args.book c.requires.held c.args.grid c.requires.grid_is) in
     let r = c.search-ran in
     found_within c.args.book c.requires.held c.args.grid c.requires.grid_is l.result loads c.args.test _ _ _ _ _ c.scan-best.ensures _
-          (c.search-ran.ensures.searched (model c.args.book c.requires.held c.args.grid c.requires.grid_is l.result loads)) (omega (arith, c.if-budget-trials.false))
+    (c.search-ran.ensures.searched (model c.args.book c.requires.held c.args.grid c.requires.grid_is l.result loads)) (omega (arith, c.if-budget-trials.false))
 
 pub returns-clause-words : goal.returns-clause-words
 unfolding laid

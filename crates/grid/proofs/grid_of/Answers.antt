@@ -55,7 +55,6 @@ module _ (c : goal.After-slot_of-slot) where
       products_small (slots_of (problem_of c.args.book)) l.t (before c) c.slot_of-slot.result l.invariant.2 (omega (arith, leb-true l.cells _ c.if-cells-le-CELLS.true-raw))
       (omega (arith, slot_is.top_is, sizes)) (omega (arith, slot_is.width_is, sizes)) deep
 
-
 pub loop-t-init : goal.loop-t-init
 loop-t-init c =
     (omega arith, held_four c.args.book c.requires, grid_none (slots_of (problem_of c.args.book)) c.args.book.slots _ _ _ _ (sym (slots_length c.args.book c.requires)) refl refl refl refl)

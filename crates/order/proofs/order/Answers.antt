@@ -14,8 +14,8 @@ returns-then-answer-ne0-clause-result c =
     let r = c.read_book-reading in
     let buffer = a.order.now in
     refusal_passed_on a.book.now r.result r.ensures (λ x y. WritesOrder x buffer buffer (record { answer = y; starts = 0; stops = 0 }))
-          (λ refusal line. record { writes = record { answers = refl; leaves = refl }; starts = refl; stops = refl })
-          (sheets_order a.running.now a.planned.now a.names.now (length buffer)) c.if-answer-ne0.true
+    (λ refusal line. record { writes = record { answers = refl; leaves = refl }; starts = refl; stops = refl })
+    (sheets_order a.running.now a.planned.now a.names.now (length buffer)) c.if-answer-ne0.true
 
 pub order_for-requires : goal.order_for-requires
 order_for-requires c =

@@ -17,7 +17,7 @@ returns-then-answer-ne0-clause-result c =
     let words = length a.work.now in
     let room = length a.sheet.now in
     writes-same (sym (result_is words room a.test a.book.now))
-          (reading_refused a.book.now r.result r.ensures (fine_plan words room a.test) a.sheet.now c.if-answer-ne0.true)
+    (reading_refused a.book.now r.result r.ensures (fine_plan words room a.test) a.sheet.now c.if-answer-ne0.true)
 
 pub returns-then-too_coarse-clause-result : goal.returns-then-too_coarse-clause-result
 returns-then-too_coarse-clause-result c =
@@ -27,9 +27,9 @@ returns-then-too_coarse-clause-result c =
     let room = length a.sheet.now in
     let coarse = too_coarse a.test r.result.book (sym c.too_coarse.ensures ∙ c.if-too_coarse.true) in
     refused-writes _ _ _ a.sheet.now _ c.refusal.ensures
-          (result_is words room a.test a.book.now
-          ∙ sym (reading_done a.book.now r.result r.ensures (fine_plan words room a.test) c.if-answer-ne0.false)
-          ∙ ap (λ x. and_then x (fitted_plan a.test words room)) coarse)
+    (result_is words room a.test a.book.now
+    ∙ sym (reading_done a.book.now r.result r.ensures (fine_plan words room a.test) c.if-answer-ne0.false)
+    ∙ ap (λ x. and_then x (fitted_plan a.test words room)) coarse)
 
 pub plan_book-requires : goal.plan_book-requires
 plan_book-requires c =
@@ -47,10 +47,10 @@ returns-clause-result c =
     let enough = fine_enough a.test r.result.book
     (sym c.too_coarse.ensures ∙ c.if-too_coarse.false) in
     writes-same
-          (sym (ap (λ x. and_then x (fitted_plan a.test words room)) enough)
-          ∙ reading_done a.book.now r.result r.ensures (fine_plan words room a.test) z
-          ∙ sym (result_is words room a.test a.book.now))
-          c.plan_book.ensures.result
+    (sym (ap (λ x. and_then x (fitted_plan a.test words room)) enough)
+    ∙ reading_done a.book.now r.result r.ensures (fine_plan words room a.test) z
+    ∙ sym (result_is words room a.test a.book.now))
+    c.plan_book.ensures.result
 
 pub returns-clause-words : goal.returns-clause-words
 returns-clause-words c =
@@ -63,6 +63,6 @@ returns-clause-words c =
     let enough = fine_enough a.test r.result.book
     (sym c.too_coarse.ensures ∙ c.if-too_coarse.false) in
     subst (λ n. WordsKept n a.work.now p.new.work)
-          (ap free_for (sym (ap (λ x. and_then x (fitting words room)) enough) ∙ reading_done a.book.now r.result r.ensures (fine_fitting words room a.test) z)
-          ∙ sym (free-is words room a.test a.book.now))
-          c.plan_book.ensures.words
+    (ap free_for (sym (ap (λ x. and_then x (fitting words room)) enough) ∙ reading_done a.book.now r.result r.ensures (fine_fitting words room a.test) z)
+    ∙ sym (free-is words room a.test a.book.now))
+    c.plan_book.ensures.words

@@ -37,4 +37,4 @@ pool_both-requires-clause-second_value c =
     let r = c.read_book-reading in
     let zero = c.if-answer-ne0.false in
     both_read c.args.first.now c.args.second.now (problem_of c.args.a) (problem_of r.result.book) c.requires.first_value
-            (reading_is c.args.second.now r.result r.ensures zero)
+    (reading_is c.args.second.now r.result r.ensures zero)

@@ -12,7 +12,6 @@ use Rattle.rows.proofs.open_row.Goals as goal
 ends : (c : goal.Then-part) → Ends c.args.grid c.args.row (move_of c.args.load 0) c.part_of-part.result
 ends c =
     let still : (0 < c.args.load.count) × ((move_of c.args.load 0).gain ≡ 0) × ((move_of c.args.load 0).digit ≡ 0) = c.adds_no_key.ensures c.if-adds_no_key.true in
-    
     move_ends _ _ _ _ c.requires.grid_fits c.requires.stretches_fit c.requires.row_lt_rows (c.requires.load_fits.each 0 (still).0) c.part_of-part.ensures c.if-part.true
 
 pub source_cell-from-requires-clause-ends : goal.source_cell-from-requires-clause-ends

@@ -30,7 +30,7 @@ loop-col-preserved c =
     let t = test_of a.test (problem_of a.book) in (
       omega arith,
       elim c.if-best-worth.branch [
-        then-best-worth w ↦ ap key_of w.best-is ∙ row_next t a.work.now a.at a.low a.high a.row (key_of a.first) l.col l.invariant.0 k l.invariant.1 w.better_at-best.ensures
+        | then-best-worth w ↦ ap key_of w.best-is ∙ row_next t a.work.now a.at a.low a.high a.row (key_of a.first) l.col l.invariant.0 k l.invariant.1 w.better_at-best.ensures
         | else-best-worth w ↦ ap key_of w.best-is ∙ row_less t a.work.now a.at a.low a.high a.row (key_of a.first) l.col l.best l.invariant.0 k l.invariant.1 w.if-best-worth.false
       ],
     )

@@ -85,8 +85,7 @@ pub loop-k-preserved : goal.loop-k-preserved
 loop-k-preserved c =
     let l = c.loop-k-test.true in
     let v = c.loop-k.invariant in
-    let t = c.tries-trials.ensures in
-    (
+    let t = c.tries-trials.ensures in (
       omega arith,
       omega (arith, t.1),
       c.load_pass-reached.ensures.layer_made.low_length,

@@ -22,7 +22,7 @@ run_loads-requires-clause-run c =
     let e = c.start.ensures in
     let o = c.args.grid.origin in
     λ m.
-              run_first m _ _ _ _ e (origin_room m c.args.work.now c.requires.cells_in_bounds) (set_first o) (set_first (o + 1)) (empty-first o (o + 1)) (set_long o) (set_long (o + 1))
+    run_first m _ _ _ _ e (origin_room m c.args.work.now c.requires.cells_in_bounds) (set_first o) (set_first (o + 1)) (empty-first o (o + 1)) (set_long o) (set_long (o + 1))
 
 pub returns-clause-work_unchanged : goal.returns-clause-work_unchanged
 returns-clause-work_unchanged c =

@@ -29,12 +29,11 @@ slice_bounds-write_slots-start c =
 
 pub write_slots-requires-clause-slots_le_most_slots : goal.write_slots-requires-clause-slots_le_most_slots
 write_slots-requires-clause-slots_le_most_slots c =
-    let a = c.args in
-    (
-        omega (arith, held_four a.book c.requires.held),
-        held-few a.book c.requires.held,
-        omega (arith, c.requires.book_in_bounds, held-count a.book c.requires.held, held-slots a.book c.requires.held),
-      )
+    let a = c.args in (
+      omega (arith, held_four a.book c.requires.held),
+      held-few a.book c.requires.held,
+      omega (arith, c.requires.book_in_bounds, held-count a.book c.requires.held, held-slots a.book c.requires.held),
+    )
 
 pub write_slots-requires-clause-by_index : goal.write_slots-requires-clause-by_index
 write_slots-requires-clause-by_index c =

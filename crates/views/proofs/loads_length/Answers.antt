@@ -22,6 +22,6 @@ loop-k-preserved c =
     let l = c.loop-k in
     let more = length_more c.args.picks l.k in
     elim c.if-picks-k-ne0.branch [
-      then-picks-k-ne0 w ↦ (omega arith, omega (arith, more, w.bytes-is, length_runs (suc l.k) _ w.if-picks-k-ne0.true))
+      | then-picks-k-ne0 w ↦ (omega arith, omega (arith, more, w.bytes-is, length_runs (suc l.k) _ w.if-picks-k-ne0.true))
       | else-picks-k-ne0 w ↦ (omega arith, omega (arith, more, w.bytes-is, ap length (load_stands (suc l.k) _ w.if-picks-k-ne0.false)))
     ]

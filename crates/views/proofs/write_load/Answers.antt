@@ -34,7 +34,7 @@ returns-clause-bytes c =
     let runs = c.if-level-eq0.false in
     let long = length_runs (suc a.k) a.level runs in
     load_written a.view.now _ _ a.at (suc a.k) a.level _ _ runs (omega arith) (omega arith) (omega (arith, c.requires.level_in_bounds, long))
-          c.write.ensures c.write-2.ensures
+    c.write.ensures c.write-2.ensures
 
 pub returns-clause-next : goal.returns-clause-next
 returns-clause-next c =
