@@ -43,6 +43,70 @@ int print_pooled(const std::string &first, const std::string &second, std::size_
     return 0;
 }
 
+// What the loads of a mill are worth and draw.
+struct Sums {
+    std::uint64_t worth;
+    std::vector<Slot> slots;
+};
+
+// Adds a load at this level, or standing. Its line begins at `at` in an accepted book: kind, o, on a 06 line the standing
+// pairs, then for each level a worth and the pairs.
+void add_load(Sums &sums, const std::string &book, std::size_t at, std::size_t level)
+{
+    const std::size_t pairs = 8 * sums.slots.size();
+    const bool draws_standing = field(book, at, 2) == 0x06;
+    if (level == 0 && !draws_standing)
+        return;
+    std::size_t place = at + 4;
+    if (level != 0) {
+        place += (draws_standing ? pairs : 0) + (level - 1) * (4 + pairs);
+        sums.worth += field(book, place, 4);
+        place += 4;
+    }
+    for (Slot &slot : sums.slots) {
+        const auto q = static_cast<std::int64_t>(field(book, place + 4, 4));
+        slot.active += field(book, place, 4);
+        slot.reactive += q < 0x8000 ? q : q - 0x10000;
+        place += 8;
+    }
+}
+
+// The slots of an accepted book with their limits, and nothing drawn. The limits are the last digits of the header.
+Sums nothing(const std::string &book)
+{
+    const std::size_t slots = field(book, 2, 2), first = book.find('\n') - 4 * slots;
+    Sums sums{0, {}};
+    for (std::size_t s = 0; s < slots; s++)
+        sums.slots.push_back({0, 0, field(book, first + 4 * s, 4)});
+    return sums;
+}
+
+// The last so many hexadecimal digits of a number, in two's complement.
+std::string hex(std::uint64_t number, std::size_t digits)
+{
+    std::string text;
+    for (std::size_t i = digits; i-- > 0;)
+        text += "0123456789ABCDEF"[number >> 4 * i & 15];
+    return text;
+}
+
+// The sheet of this book with these trials and levels (2 digits for each load).
+std::string sheet_of(const std::string &book, std::uint64_t trials, const std::string &levels)
+{
+    Sums sums = nothing(book);
+    std::size_t at = 0;
+    for (std::size_t k = 0; k < levels.size(); k += 2) {
+        at = book.find('\n', at) + 1;
+        add_load(sums, book, at, field(levels, k, 2));
+    }
+    std::string sheet = "04" + hex(sums.worth, 8) + hex(trials, 8) + levels + "\n";
+    for (const Slot &slot : sums.slots) {
+        const auto q = static_cast<std::uint64_t>(slot.reactive);
+        sheet += "05" + hex(slot.active, 8) + hex(q, 8) + hex(slot.limit, 4) + "\n";
+    }
+    return sheet;
+}
+
 // Whether the sheet belongs to the book; if not, the refusal is printed.
 bool accepted(const std::string &book, const std::string &sheet)
 {

@@ -33,7 +33,6 @@ static inline const char *refusal_word(uint64_t number)
     case JADESHUTTLE_SLOTS_OR_FINENESS_DIFFER: return "unlike";
     case JADESHUTTLE_TOO_MANY_LOADS: return "too many loads";
     case JADESHUTTLE_LIMIT_SUM_TOO_LARGE: return "limit too large";
-    case JADESHUTTLE_TOO_MANY_TO_LIST: return "too many to list";
     default: return "unknown";
     }
 }

@@ -1,5 +1,4 @@
-// What the examples in C++ share: their files, arguments and errors, the fields of a book and a sheet that were accepted, and the
-// sheet of a choice.
+// What the examples in C++ share: their files, arguments and errors, and the fields of a book and a sheet that were accepted.
 #ifndef EXAMPLES_SHEETS_HPP
 #define EXAMPLES_SHEETS_HPP
 
@@ -53,70 +52,6 @@ inline Slot slot_on(const std::string &sheet, std::size_t loads, std::size_t s)
     const std::size_t at = 19 + 2 * loads + 23 * s;
     const auto q = static_cast<std::int64_t>(field(sheet, at + 10, 8));
     return {field(sheet, at + 2, 8), q < (1LL << 31) ? q : q - (1LL << 32), field(sheet, at + 18, 4)};
-}
-
-// What the loads of a choice are worth and draw.
-struct Sums {
-    std::uint64_t worth;
-    std::vector<Slot> slots;
-};
-
-// Adds a load at this level, or standing. Its line begins at `at` in an accepted book: kind, o, on a 06 line the standing
-// pairs, then for each level a worth and the pairs.
-inline void add_load(Sums &sums, const std::string &book, std::size_t at, std::size_t level)
-{
-    const std::size_t pairs = 8 * sums.slots.size();
-    const bool draws_standing = field(book, at, 2) == 0x06;
-    if (level == 0 && !draws_standing)
-        return;
-    std::size_t place = at + 4;
-    if (level != 0) {
-        place += (draws_standing ? pairs : 0) + (level - 1) * (4 + pairs);
-        sums.worth += field(book, place, 4);
-        place += 4;
-    }
-    for (Slot &slot : sums.slots) {
-        const auto q = static_cast<std::int64_t>(field(book, place + 4, 4));
-        slot.active += field(book, place, 4);
-        slot.reactive += q < 0x8000 ? q : q - 0x10000;
-        place += 8;
-    }
-}
-
-// The slots of an accepted book with their limits, and nothing drawn. The limits are the last digits of the header.
-inline Sums nothing(const std::string &book)
-{
-    const std::size_t slots = field(book, 2, 2), first = book.find('\n') - 4 * slots;
-    Sums sums{0, {}};
-    for (std::size_t s = 0; s < slots; s++)
-        sums.slots.push_back({0, 0, field(book, first + 4 * s, 4)});
-    return sums;
-}
-
-// The last so many hexadecimal digits of a number, in two's complement.
-inline std::string hex(std::uint64_t number, std::size_t digits)
-{
-    std::string text;
-    for (std::size_t i = digits; i-- > 0;)
-        text += "0123456789ABCDEF"[number >> 4 * i & 15];
-    return text;
-}
-
-// The sheet of an accepted book with these trials and levels (2 digits for each load).
-inline std::string sheet_of(const std::string &book, std::uint64_t trials, const std::string &levels)
-{
-    Sums sums = nothing(book);
-    std::size_t at = 0;
-    for (std::size_t k = 0; k < levels.size(); k += 2) {
-        at = book.find('\n', at) + 1;
-        add_load(sums, book, at, field(levels, k, 2));
-    }
-    std::string sheet = "04" + hex(sums.worth, 8) + hex(trials, 8) + levels + "\n";
-    for (const Slot &slot : sums.slots) {
-        const auto q = static_cast<std::uint64_t>(slot.reactive);
-        sheet += "05" + hex(slot.active, 8) + hex(q, 8) + hex(slot.limit, 4) + "\n";
-    }
-    return sheet;
 }
 
 // A number of tenths, as "-12.3".

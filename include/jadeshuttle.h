@@ -15,15 +15,14 @@
  *   jadeshuttle_supply_view the supply company's view: a sheet's slot lines alone
  *   jadeshuttle_day         the day: plans up to 32 books in one call
  *   jadeshuttle_pool        the pool: writes one book of the books of two mills
- *   jadeshuttle_list        the list: writes all plans of a small book
  *
  * docs/HANDBOOK.md describes the book and the sheet field by field, what the
  * limits mean for a relay, how large a work area a book needs, what a price is,
  * which loads to name for an order, what each party learns from its view, which
  * loads draw while standing or must run, what can be done where a book has no plan,
  * how a day's books are handed over and their output is read back, which motors need
- * a ratio above 1, when to take the strict planner, what two mills on one transformer
- * gain by a joint plan, and how to page through all plans of a small site.
+ * a ratio above 1, when to take the strict planner, and what two mills on one
+ * transformer gain by a joint plan.
  *
  * THE BOOK  A header line of kind 01, or of kind 08 where it states a ratio r; then a
  * line for each load: of kind 02, of kind 06 for a load that draws while it stands, or
@@ -52,19 +51,19 @@
  * MEMORY THAT YOU LEND
  *   - A call uses the memory only until it returns. It keeps no pointer.
  *   - Lengths are in elements: bytes for a book, a day's books, a sheet, names, an
- *     order, a view, a day's output, a pooled book and a list, 64-bit words for the work
- *     area, 16-bit numbers for prices.
+ *     order, a view, a day's output and a pooled book, 64-bit words for the work area,
+ *     16-bit numbers for prices.
  *   - No pointer may be NULL, not even where its length is 0. `work` is aligned
  *     as a uint64_t is, `prices` as a uint16_t.
  *   - All the bytes that a length names are yours to lend. No length names more
  *     than PTRDIFF_MAX bytes.
  *   - What is written may overlap nothing else: `work` and the planners' `sheet`
  *     lie apart from each other and from `book`, `work` and `out` from each other and
- *     from `books`, and `order`, `view`, `pooled` and `list` from all that the call
- *     reads. What is only read may overlap, so all that the sheet reader and the charge
- *     take, and the two books of the pool.
- *   - `work`, the planners' `sheet`, `order`, `view`, `out`, `pooled` and `list` need no
- *     first values. No answer depends on them.
+ *     from `books`, and `order`, `view` and `pooled` from all that the call reads. What
+ *     is only read may overlap, so all that the sheet reader and the charge take, and
+ *     the two books of the pool.
+ *   - `work`, the planners' `sheet`, `order`, `view`, `out` and `pooled` need no first
+ *     values. No answer depends on them.
  *
  * The calls cannot test these points. Where one is broken, nothing is promised.
  * Of the values in book, books, first, second, sheet, prices and names, nothing is
@@ -73,8 +72,8 @@
  * WHAT A CALL LEAVES BEHIND
  *   - With a sheet (number 0): the first `bytes` bytes of the sheet buffer are the
  *     sheet. It is no C string: no 0 byte follows. The rest of the buffer keeps
- *     its values. The same holds for an order, a view, a day's output, a pooled book
- *     or a list and its buffer.
+ *     its values. The same holds for an order, a view, a day's output or a pooled
+ *     book and its buffer.
  *   - With a refusal: no byte of the buffer changes. A day is refused with 18 or 19; a
  *     refused book of a day is a line of the output.
  *   - The work area: with a sheet, refusal 12 or refusal 17, the first 4 x cells
@@ -86,12 +85,12 @@
  *
  * THREADS  There is no state. Calls may run at the same time in several threads,
  * as long as each has its own memory to write: `work`, the planners' `sheet`,
- * `order`, `view`, `out`, `pooled`, and `list`. What is only read may be shared.
+ * `order`, `view`, `out`, and `pooled`. What is only read may be shared.
  *
  * STACK, HEAP  Nothing is allocated. Stack used by a call, as measured on x86-64
  * Linux: planner and strict planner up to 86 KiB, day up to 91 KiB, as its output waits
- * there until it is known to fit, quick planner up to 57 KiB, list up to 40 KiB, sheet
- * reader, charge, order, views and pool up to 35 KiB. Leave 128 KiB of stack for a call.
+ * there until it is known to fit, quick planner up to 57 KiB, sheet reader, charge,
+ * order, views and pool up to 35 KiB. Leave 128 KiB of stack for a call.
  *
  * ERRORS  A call always returns. It prints nothing, and sets no errno.
  */
@@ -115,19 +114,17 @@ extern "C" {
 #define JADESHUTTLE_WORK_MAX 4194304  /* words of the work area for that many cells: 4 a cell, 32 MiB */
 #define JADESHUTTLE_BOOKS_MAX 32      /* books of a day; more are refused as too many */
 #define JADESHUTTLE_DAY_MAX 5088      /* bytes of a day's longest output: 32 sheets of 159 bytes */
-#define JADESHUTTLE_LISTED_MAX 6      /* loads of a book that is listed; more are refused as too many to list */
-#define JADESHUTTLE_LIST_MAX 53248    /* bytes of the longest list: 4,096 lines of 13 bytes, for N = 6 */
 
 /*
  * What `number` says. Lines are read in order, and on each line 1 to 7 are tried
  * in this order, as far as they concern it; then 8 to 17, but the strict planner tries
  * 20 right after 8, and the 11 of an order or a view comes last. The pool tries 1 to 8
- * through its first book, then through its second, then 21 to 23, and 11 last. The list
- * tries 24 right after 8, and then 11. The first that applies is given. `line` is the
- * number of the line in the book, from 1, for 1 to 8, and in the pool's second book it
- * counts on from the first's last line; it is 0 for success and from 9 on. The day
- * answers only 18, and then 19: what its books are refused with, 1 to 10, 12 and 17,
- * stands in its output. Each comment begins with the handbook's word.
+ * through its first book, then through its second, then 21 to 23, and 11 last. The
+ * first that applies is given. `line` is the number of the line in the book, from 1,
+ * for 1 to 8, and in the pool's second book it counts on from the first's last line; it
+ * is 0 for success and from 9 on. The day answers only 18, and then 19: what its books
+ * are refused with, 1 to 10, 12 and 17, stands in its output. Each comment begins with
+ * the handbook's word.
  */
 enum jadeshuttle_number {
     JADESHUTTLE_SUCCESS = 0,
@@ -145,8 +142,8 @@ enum jadeshuttle_number {
     /* The planner and the strict planner. */
     JADESHUTTLE_TOO_MANY_CELLS = 9,  /* oversize: cells over 1,048,576 */
     JADESHUTTLE_WORK_TOO_SMALL = 10, /* cramped: work area under 4 x cells words */
-    /* The three planners, the order, the views, the pool and the list. */
-    JADESHUTTLE_BUFFER_TOO_SMALL = 11, /* no sheet: buffer shorter than the sheet, order, view, pooled book or list */
+    /* The three planners, the order, the views and the pool. */
+    JADESHUTTLE_BUFFER_TOO_SMALL = 11, /* no sheet: buffer shorter than the sheet, order, view or pooled book */
     /* The planner and the strict planner. */
     JADESHUTTLE_BUDGET_EXCEEDED = 12, /* spent: trials over the budget */
     /* The sheet reader, the charge, the order and the views. */
@@ -167,18 +164,16 @@ enum jadeshuttle_number {
     /* The pool only. */
     JADESHUTTLE_SLOTS_OR_FINENESS_DIFFER = 21, /* unlike: T or d of the two books differ */
     JADESHUTTLE_TOO_MANY_LOADS = 22,           /* too many loads: the two books have over 24 together */
-    JADESHUTTLE_LIMIT_SUM_TOO_LARGE = 23,      /* limit too large: the two limits of a slot are over 65,535 together */
-    /* The list only. */
-    JADESHUTTLE_TOO_MANY_TO_LIST = 24 /* too many to list: N is over 6 */
+    JADESHUTTLE_LIMIT_SUM_TOO_LARGE = 23       /* limit too large: the two limits of a slot are over 65,535 together */
 };
 
-/* What planners, views, day, pool and list answer. With a refusal, bytes, worth and trials are 0. */
+/* What the planners, the views, the day and the pool answer. With a refusal, bytes, worth and trials are 0. */
 typedef struct jadeshuttle_answer {
     uint64_t number; /* 0, or the refusal's number */
     uint64_t line;   /* the refused line of the book, or 0; for a day, 0; for the pool, counted through both books */
-    uint64_t bytes;  /* bytes of the sheet, view, day's output, pooled book or list that were written */
-    uint64_t worth;  /* worth of the sheet's choice; for a view, a day, the pool or the list, 0 */
-    uint64_t trials; /* the book's trials; for the quick planner, N; for a view, a day, the pool or the list, 0 */
+    uint64_t bytes;  /* bytes of the sheet, the view, the day's output or the pooled book that were written */
+    uint64_t worth;  /* worth of the sheet's choice; for a view, a day or the pool, 0 */
+    uint64_t trials; /* the book's trials; for the quick planner, N; for a view, a day or the pool, 0 */
 } jadeshuttle_answer;
 
 /* What the sheet reader answers. With a refusal, all after line is 0. */
@@ -471,45 +466,6 @@ jadeshuttle_answer jadeshuttle_day(const uint8_t *books, size_t books_len,
 jadeshuttle_answer jadeshuttle_pool(const uint8_t *first, size_t first_len,
                                     const uint8_t *second, size_t second_len,
                                     uint8_t *pooled, size_t pooled_len);
-
-/*
- * The list: all plans of a small book, one of up to 6 loads. Writes a line for every
- * choice that keeps P*P + Q*Q <= S*S in every slot, with P and Q the true sums, and for
- * no other: the level of each load in book order, 2 digits each, ended by LF. A line has
- * no kind, no worth and no sums; it is no sheet. Every choice runs the loads that must
- * run, and the sums count standing pairs. The lines ascend by code, as
- * jadeshuttle_read_sheet has it: load 1's level changes fastest and the last load's
- * slowest, and each choice has one line. Where no choice keeps the limits the list is
- * empty: number 0 and bytes 0. Worth and trials are 0 in the answer.
- *
- * A line has 2N + 1 bytes. So there are bytes / (2N + 1) lines, and line i, from 1,
- * starts at byte (2N + 1) * (i - 1) of the list: any page can be shown at once.
- *
- * Gives 1 to 8, 24 where N is over 6, and last 11. It needs no work area, and has no
- * bound on cells or trials: d, r and the budget decide nothing beside refusals 6 and 7.
- * A list has at most 4,096 lines. JADESHUTTLE_LIST_MAX bytes always suffice: with them
- * 11 is not given. How long a list is depends on the powers of the book. So all choices
- * are formed twice, once to count the bytes and once to write them; with 11 the second
- * time is left out. With a buffer of 0 bytes, number 0 says that there is no line, and
- * 11 that there is at least one.
- *
- * Of every list:
- *   - its lines are exactly the choices that keep P*P + Q*Q <= S*S in every slot, and
- *     each of them runs every load that must run;
- *   - they ascend by code, so each stands there once, and at the place said above;
- *   - each sheet that jadeshuttle_plan gives for the book is worth at least as much as
- *     each line's choice;
- *   - where there is a line, jadeshuttle_plan does not give 17.
- *
- * BESIDE THE PLANNERS  The choice of a sheet of jadeshuttle_plan_strict or
- * jadeshuttle_quick is among the lines. The choice of a sheet of jadeshuttle_plan is
- * where it keeps the limits, and then it is the first of the lines of greatest worth;
- * where it goes above a limit, it is not. So the list can be empty where
- * jadeshuttle_plan gives a sheet, and it can have a line where jadeshuttle_plan_strict
- * gives 17 or 20.
- */
-jadeshuttle_answer jadeshuttle_list(const uint8_t *book, size_t book_len,
-                                    uint8_t *list, size_t list_len);
 
 #ifdef __cplusplus
 }

@@ -250,7 +250,7 @@ pub fn refusals(model: &Source) -> Parsed<Vec<(String, u64)>> {
 
 /// The sizes that are large enough for every book and every day, and the most books of a day, computed from the constants of
 /// the source's `Book`.
-pub fn sizes(model: &Source) -> Parsed<[(&'static str, u64); 9]> {
+pub fn sizes(model: &Source) -> Parsed<[(&'static str, u64); 8]> {
     let bounds = bounds(model)?;
     let bound = |name: &str| {
         let found = bounds.get(name).copied();
@@ -261,8 +261,6 @@ pub fn sizes(model: &Source) -> Parsed<[(&'static str, u64); 9]> {
     let header = 18 + 4 * slots + 1;
     let load = 4 + 8 * slots + bound("OPTIONS")? * (4 + 8 * slots) + 1;
     let (mill_view, supply_view) = (11 + 4 * bound("LOADS")?, 23 * slots);
-    // A load stands or has one of its options, and a line has two digits for each load.
-    let (settings, listed) = (bound("OPTIONS")? + 1, bound("LISTED")?);
     Ok([
         ("BOOK_MAX", header + bound("LOADS")? * load),
         ("SHEET_MAX", bound("SHEET")?),
@@ -272,7 +270,6 @@ pub fn sizes(model: &Source) -> Parsed<[(&'static str, u64); 9]> {
         ("WORK_MAX", 4 * bound("CELLS")?),
         ("BOOKS_MAX", bound("BOOKS")?),
         ("DAY_MAX", bound("DAY")?),
-        ("LIST_MAX", settings.pow(listed as u32) * (2 * listed + 1)),
     ])
 }
 

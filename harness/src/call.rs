@@ -86,7 +86,6 @@ pub enum Function {
     SupplyView,
     Day,
     Pool,
-    List,
 }
 
 /// A function and what it is given; what it does not take is empty. `book` is a book, the first of two, or a day's books; `sheet`
@@ -188,13 +187,6 @@ impl<'a> Input<'a> {
             ..Input::quick(first, buffer)
         }
     }
-
-    pub fn list(book: &'a [u8], buffer: &'a [u8]) -> Input<'a> {
-        Input {
-            function: Function::List,
-            ..Input::quick(book, buffer)
-        }
-    }
 }
 
 /// A call that was made, and all memory that it could reach.
@@ -237,7 +229,6 @@ impl Call {
             Function::SupplyView => crate::supply_view(book.part(), planned.part(), sheet.part_mut()).into(),
             Function::Day => crate::day(book.part(), work.part_mut(), sheet.part_mut()).into(),
             Function::Pool => crate::pool(book.part(), second.part(), sheet.part_mut()).into(),
-            Function::List => crate::list(book.part(), sheet.part_mut()).into(),
         };
         Call {
             function: input.function,
@@ -313,7 +304,7 @@ impl Call {
             Function::Plan | Function::PlanStrict | Function::Day => {
                 format!("{start}, {words} words, buffer of {bytes}")
             }
-            Function::Quick | Function::List => format!("{start}, buffer of {bytes}"),
+            Function::Quick => format!("{start}, buffer of {bytes}"),
             Function::ReadSheet => format!("{start}, sheet \"{sheet}\""),
             Function::Charge => format!("{start}, sheet \"{sheet}\", prices {:?}", self.prices.part()),
             Function::Order => format!(

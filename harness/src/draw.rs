@@ -1,9 +1,7 @@
 //! Random valid books, the twin of a book, the longest book, a book with the longest sheet and views, and the bytes of a book;
-//! days of books, pairs of books, books at the ratio that they state, books whose powers share steps, and books at their limits, in
-//! modules of their own.
+//! days of books, pairs of books, books at the ratio that they state, and books whose powers share steps, in modules of their own.
 
 pub mod days;
-pub mod limits;
 pub mod pairs;
 pub mod ratios;
 pub mod steps;

@@ -1,7 +1,6 @@
 //! The kinds of inputs that the archive is compared on. A run of a kind makes one call or more.
 
 pub mod days;
-pub mod list;
 pub mod pool;
 mod ratios;
 mod strict;
@@ -23,88 +22,79 @@ pub struct Kind {
 }
 
 pub const KINDS: &[Kind] = &[
-    kind("small books", 410, small_books),
-    kind("larger grids", 75, larger_grids),
-    kind("many loads", 110, many_loads),
+    kind("small books", 440, small_books),
+    kind("larger grids", 80, larger_grids),
+    kind("many loads", 120, many_loads),
     kind("large tables", 20, large_tables),
-    kind("budgets", 290, budgets),
-    kind("work areas", 200, work_areas),
-    kind("sheet buffers", 200, buffers),
-    kind("several shortages", 200, shortages),
-    kind("words of earlier plans", 190, earlier_words),
-    kind("oversize books", 150, too_many_cells),
+    kind("budgets", 310, budgets),
+    kind("work areas", 220, work_areas),
+    kind("sheet buffers", 220, buffers),
+    kind("several shortages", 220, shortages),
+    kind("words of earlier plans", 210, earlier_words),
+    kind("oversize books", 160, too_many_cells),
     kind("1,048,576 cells", 2, full_tables),
-    kind("one fault", 330, one_fault),
-    kind("two faults", 320, two_faults),
-    kind("truncated books", 340, truncated_books),
-    kind("a byte changed", 560, changed_books),
-    kind("bytes inserted, deleted", 170, shifted_books),
-    kind("lines exchanged", 130, reordered_books),
-    kind("random bytes", 85, random_bytes),
-    kind("random digits", 85, random_digits),
-    kind("sheets of choices", 140, sheets_of_choices),
-    kind("sheets, a byte changed", 140, changed_sheets),
-    kind("sheets, cut or longer", 85, cut_sheets),
-    kind("sheets of other books", 40, foreign_sheets),
+    kind("one fault", 360, one_fault),
+    kind("two faults", 350, two_faults),
+    kind("truncated books", 370, truncated_books),
+    kind("a byte changed", 610, changed_books),
+    kind("bytes inserted, deleted", 180, shifted_books),
+    kind("lines exchanged", 140, reordered_books),
+    kind("random bytes", 90, random_bytes),
+    kind("random digits", 90, random_digits),
+    kind("sheets of choices", 150, sheets_of_choices),
+    kind("sheets, a byte changed", 150, changed_sheets),
+    kind("sheets, cut or longer", 90, cut_sheets),
+    kind("sheets of other books", 45, foreign_sheets),
     kind("sheets, level above o", 43, levels_above),
-    kind("charges", 75, charges),
-    kind("charges, exact halves", 55, exact_halves),
-    kind("numbers of prices", 75, price_counts),
-    kind("orders", 130, orders),
-    kind("orders, buffers", 75, order_buffers),
-    kind("orders, names", 75, order_names),
-    kind("views", 90, views),
-    kind("views, buffers", 90, view_buffers),
-    kind("views of twins", 85, views_of_twins),
-    kind("views as sheets", 40, views_as_sheets),
-    kind("no choice admitted", 140, none_admitted),
-    kind("running draws less", 100, running_draws_less),
-    kind("standing draws nothing", 110, standing_draws_nothing),
-    kind("passed over, fits later", 40, fits_later),
+    kind("charges", 80, charges),
+    kind("charges, exact halves", 60, exact_halves),
+    kind("numbers of prices", 80, price_counts),
+    kind("orders", 140, orders),
+    kind("orders, buffers", 80, order_buffers),
+    kind("orders, names", 80, order_names),
+    kind("views", 100, views),
+    kind("views, buffers", 100, view_buffers),
+    kind("views of twins", 90, views_of_twins),
+    kind("views as sheets", 45, views_as_sheets),
+    kind("no choice admitted", 150, none_admitted),
+    kind("running draws less", 110, running_draws_less),
+    kind("standing draws nothing", 120, standing_draws_nothing),
+    kind("passed over, fits later", 45, fits_later),
     kind("longest books", 10, longest_books),
-    kind("must run, none admitted", 120, must_run_none_admitted),
-    kind("must run, crowding out", 90, must_run_crowds_out),
-    kind("must run, start too large", 100, must_run_start_too_large),
-    kind("sheets, must run stands", 100, must_run_stands),
-    kind("kinds of lines", 110, line_kinds),
-    kind("every header", 120, ratios::every_header),
-    kind("r = 1, both kinds", 110, ratios::one_by_both_kinds),
-    kind("|Q| about r x P", 170, ratios::near_ratio),
-    kind("r outside 1 to 3", 120, ratios::out_of_range),
-    kind("work areas by r", 130, ratios::work_areas),
-    kind("loads that cancel", 130, ratios::cancelling),
-    kind("strict, below the plan", 180, strict::below_the_plan),
-    kind("strict, none fits", 180, strict::none_fits),
-    kind("strict, not compared", 170, strict::not_compared),
-    kind("strict, d = 1", 180, strict::too_coarse),
-    kind("strict, by d", 120, strict::by_fineness),
-    kind("days", 85, days::right_books),
-    kind("days, refused books", 100, days::refused_books),
-    kind("days, empty lines", 100, days::empty_lines),
-    kind("days, numbers of books", 65, days::numbers_of_books),
-    kind("days, long books", 45, days::long_books),
-    kind("days, work areas", 85, days::work_areas),
-    kind("days, one by one", 100, days::one_by_one),
-    kind("days, bytes changed", 82, days::changed_days),
+    kind("must run, none admitted", 130, must_run_none_admitted),
+    kind("must run, crowding out", 100, must_run_crowds_out),
+    kind("must run, start too large", 110, must_run_start_too_large),
+    kind("sheets, must run stands", 110, must_run_stands),
+    kind("kinds of lines", 120, line_kinds),
+    kind("every header", 130, ratios::every_header),
+    kind("r = 1, both kinds", 120, ratios::one_by_both_kinds),
+    kind("|Q| about r x P", 180, ratios::near_ratio),
+    kind("r outside 1 to 3", 130, ratios::out_of_range),
+    kind("work areas by r", 140, ratios::work_areas),
+    kind("loads that cancel", 140, ratios::cancelling),
+    kind("strict, below the plan", 200, strict::below_the_plan),
+    kind("strict, none fits", 200, strict::none_fits),
+    kind("strict, not compared", 180, strict::not_compared),
+    kind("strict, d = 1", 200, strict::too_coarse),
+    kind("strict, by d", 130, strict::by_fineness),
+    kind("days", 90, days::right_books),
+    kind("days, refused books", 110, days::refused_books),
+    kind("days, empty lines", 110, days::empty_lines),
+    kind("days, numbers of books", 70, days::numbers_of_books),
+    kind("days, long books", 50, days::long_books),
+    kind("days, work areas", 90, days::work_areas),
+    kind("days, one by one", 110, days::one_by_one),
+    kind("days, bytes changed", 89, days::changed_days),
     kind("days, most output", 1, days::most_output),
-    kind("pools, planned", 240, pool::planned),
-    kind("pools, buffers", 85, pool::buffers),
-    kind("pools, 21 to 23", 120, pool::refusals),
-    kind("pools, faults", 130, pool::faults),
-    kind("pools, 24 loads", 85, pool::load_counts),
-    kind("pools, limit sums", 85, pool::limit_sums),
-    kind("pools, headers", 110, pool::headers),
-    kind("pools of three", 55, pool::three),
+    kind("pools, planned", 260, pool::planned),
+    kind("pools, buffers", 90, pool::buffers),
+    kind("pools, 21 to 23", 130, pool::refusals),
+    kind("pools, faults", 140, pool::faults),
+    kind("pools, 24 loads", 90, pool::load_counts),
+    kind("pools, limit sums", 90, pool::limit_sums),
+    kind("pools, headers", 120, pool::headers),
+    kind("pools of three", 60, pool::three),
     kind("pools, longest", 20, pool::longest),
-    kind("lists, planned", 210, list::planned),
-    kind("lists, buffers", 80, list::buffers),
-    kind("lists, 6 loads", 80, list::load_counts),
-    kind("lists, faults", 100, list::faults),
-    kind("lists, none kept", 100, list::none_kept),
-    kind("lists, all kept", 60, list::all_kept),
-    kind("lists, at the limits", 80, list::at_limits),
-    kind("lists, limits of 0", 60, list::limits_of_nothing),
-    kind("lists, longest", 2, list::longest),
 ];
 
 const fn kind(name: &'static str, share: u64, run: fn(&mut Session)) -> Kind {
@@ -235,12 +225,10 @@ fn all_calls(session: &mut Session, case: &Case) {
     for (view, need) in view_calls(case, &planned) {
         view(session, case, &planned, need + 1);
     }
-    let room = list::need_of(case) + session.random.below(50);
-    session.list(case, room);
 }
 
 /// The calls on bytes that may be no book.
-const CALLS: [fn(&mut Session, &Case); 11] = [
+const CALLS: [fn(&mut Session, &Case); 10] = [
     plan_any,
     strict_any,
     quick_any,
@@ -251,7 +239,6 @@ const CALLS: [fn(&mut Session, &Case); 11] = [
     supply_view_any,
     days::day_any,
     pool::pool_any,
-    list::list_any,
 ];
 
 fn one_call(session: &mut Session, case: &Case) {
@@ -851,7 +838,6 @@ fn all_alike(session: &mut Session, first: &Book, second: &Book) {
     let need = needed_words(&cases[0]);
     let words = session.words(need);
     let buffer = session.bytes(VIEW_MAX.max(cases[0].sheet_bytes()));
-    let room = session.bytes(list::need_of(&cases[0]));
     for input in [
         Input::plan(&[], &words, &buffer),
         Input::plan_strict(&[], &words, &buffer),
@@ -862,7 +848,6 @@ fn all_alike(session: &mut Session, first: &Book, second: &Book) {
         Input::mill_view(&[], &planned, &buffer),
         Input::supply_view(&[], &planned, &buffer),
         Input::day(&[], &words, &buffer),
-        Input::list(&[], &room),
     ] {
         session.call_alike(&cases, input);
     }

@@ -16,8 +16,8 @@ pub mod trials;
 
 // The archive's calls as functions on slices: `plan` (jadeshuttle_plan), `plan_strict` (jadeshuttle_plan_strict), `quick`
 // (jadeshuttle_quick), `read_sheet` (jadeshuttle_read_sheet), `charge` (jadeshuttle_charge), `order` (jadeshuttle_order),
-// `mill_view` (jadeshuttle_mill_view), `supply_view` (jadeshuttle_supply_view), `day` (jadeshuttle_day), `pool`
-// (jadeshuttle_pool) and `list` (jadeshuttle_list); their answers, and the largest sizes. `build.rs` writes them.
+// `mill_view` (jadeshuttle_mill_view), `supply_view` (jadeshuttle_supply_view), `day` (jadeshuttle_day) and `pool`
+// (jadeshuttle_pool); their answers, and the largest sizes. `build.rs` writes them.
 include!(concat!(env!("OUT_DIR"), "/declarations.rs"));
 
 /// The numbers of any call's answer, so that one comparison serves all calls: the five that each answer begins with, and

@@ -4,7 +4,6 @@ pub mod book;
 pub mod charge;
 pub mod day;
 pub mod grid;
-pub mod list;
 pub mod must_run;
 pub mod order;
 pub mod plan;
@@ -61,8 +60,6 @@ pub struct Case {
     strict: Found<Compared<Option<Plan>>>,
     /// The most that a choice with M-109's margin is worth.
     margin: Found<Option<u64>>,
-    /// The choices that are listed.
-    listed: Found<Vec<Vec<usize>>>,
     /// The books of a day; none where these bytes are one book.
     parts: OnceCell<Vec<Case>>,
 }
@@ -109,7 +106,6 @@ impl Case {
             planned: Found::default(),
             strict: Found::default(),
             margin: Found::default(),
-            listed: Found::default(),
             parts: OnceCell::new(),
         }
     }
@@ -124,7 +120,6 @@ impl Case {
             planned: self.planned.clone(),
             strict: self.strict.clone(),
             margin: self.margin.clone(),
-            listed: self.listed.clone(),
             ..Case::new(text)
         }
     }
@@ -184,11 +179,6 @@ impl Case {
         strict::broken(self.valid(), *margin, plain, strict)
     }
 
-    /// The choices that are listed of a book that was read and has few loads.
-    pub fn listed(&self) -> &[Vec<usize>] {
-        self.listed.get_or_init(|| list::choices(self.valid()))
-    }
-
     fn valid(&self) -> &Book {
         self.book.as_ref().expect("a valid book")
     }
@@ -235,7 +225,6 @@ impl Case {
             Function::SupplyView => self.supply_view(input.planned, input.sheet.len()),
             Function::Day => self.day(input.words.len(), input.sheet.len()),
             Function::Pool => self.pool(input.second, input.sheet.len()),
-            Function::List => self.list(input.sheet.len()),
         }
     }
 
@@ -361,11 +350,6 @@ impl Case {
         pool::of(self, second, buffer).unwrap_or_else(refused::<0>)
     }
 
-    /// All plans of this book.
-    pub fn list(&self, buffer: usize) -> Outcome {
-        list::of(self, buffer).unwrap_or_else(refused::<0>)
-    }
-
     /// The book, after refusals 1 to 8.
     fn read(&self) -> Result<&Book, Refusal> {
         self.book.as_ref().map_err(|refusal| *refusal)
@@ -417,8 +401,8 @@ pub fn written(book: &Book, choice: &[usize], trials: u64) -> Outcome {
     }
 }
 
-/// An order, a view, a day's output, a pooled book or a list, and the numbers after the first five; a refusal with this number where
-/// it is longer than the buffer.
+/// An order, a view, a day's output or a pooled book, and the numbers after the first five; a refusal with this number where it is
+/// longer than the buffer.
 pub fn fitting(bytes: Vec<u8>, buffer: usize, number: u64, further: Vec<u64>) -> Result<Outcome, Refusal> {
     refuse_if(buffer < bytes.len(), number)?;
     let first = Answer {

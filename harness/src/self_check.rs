@@ -4,7 +4,6 @@
 
 mod charge;
 mod days;
-mod list;
 mod pool;
 mod ratios;
 mod strict;
@@ -321,7 +320,6 @@ pub fn run() -> Checks {
         ratios::sheet_bases(),
         strict::bases(),
         pool::bases(),
-        list::bases(),
     ];
     for base in bases.iter().chain(&later_bases).flatten() {
         check_base(&mut checks, base);
@@ -331,7 +329,6 @@ pub fn run() -> Checks {
     }
     strict::check_promises(&mut checks);
     pool::check_promises(&mut checks);
-    list::check_promises(&mut checks);
     for (books, mistakes) in GROUPS {
         check_reference(&mut checks, books, &NO_MISTAKE, false);
         for mistake in mistakes.iter().copied().flatten() {
@@ -353,7 +350,6 @@ fn check_base(checks: &mut Checks, base: &Base) {
         Function::SupplyView => &[SHOWN, SUPPLY],
         Function::Day => &[KEPT_WORDS],
         Function::Pool => &[SECOND_BOOK],
-        Function::List => &[],
     };
     let more = more.iter().copied().flatten().chain(base.own);
     for alteration in FIELDS.iter().chain(MEMORY).chain(more) {
@@ -400,15 +396,9 @@ const GROUPS: &[(Books, &[&[Mistake]])] = &[
         ],
     ),
     (pool::FAULTY_BOOKS, &[pool::ORDER_MISTAKES]),
-    (
-        list::LISTED_BOOKS,
-        &[list::CHOICE_MISTAKES, list::LINE_MISTAKES, list::ANSWER_MISTAKES],
-    ),
-    (list::LOAD_COUNTS, &[list::COUNT_MISTAKES]),
-    (list::FAULTY_BOOKS, &[list::FAULT_MISTAKES]),
 ];
 
-/// The planners, then the calls that take a sheet, then the day, the pool and the list.
+/// The planners, then the calls that take a sheet, then the day and the pool.
 const EVERY: &[Function] = &[
     Function::Plan,
     Function::PlanStrict,
@@ -420,7 +410,6 @@ const EVERY: &[Function] = &[
     Function::SupplyView,
     Function::Day,
     Function::Pool,
-    Function::List,
 ];
 
 const PLANNERS: &[Function] = EVERY.split_at(3).0;
@@ -428,7 +417,6 @@ const READERS: &[Function] = EVERY.split_at(3).1.split_at(5).0;
 const CHARGE: &[Function] = &[Function::Charge];
 const DAY: &[Function] = &[Function::Day];
 const POOL: &[Function] = &[Function::Pool];
-const LIST: &[Function] = &[Function::List];
 const PLAN: &[Function] = &[Function::Plan];
 const STRICT: &[Function] = &[Function::PlanStrict];
 const PLAN_STRICT_AND_DAY: &[Function] = &[Function::Plan, Function::PlanStrict, Function::Day];

@@ -2,14 +2,14 @@
 
 use crate::call::{Call, Function, Input};
 use crate::random::Random;
-use crate::reference::{list, pool, Case, Outcome};
+use crate::reference::{pool, Case, Outcome};
 use crate::NUMBERS;
 
 /// How many differences are kept for printing.
 const MOST_DIFFERENCES: usize = 20;
 
 /// The functions with their names, in the order of `enum Function`.
-const FUNCTIONS: [(Function, &str); 11] = [
+const FUNCTIONS: [(Function, &str); 10] = [
     (Function::Plan, "plan"),
     (Function::PlanStrict, "plan_strict"),
     (Function::Quick, "quick"),
@@ -20,7 +20,6 @@ const FUNCTIONS: [(Function, &str); 11] = [
     (Function::SupplyView, "supply_view"),
     (Function::Day, "day"),
     (Function::Pool, "pool"),
-    (Function::List, "list"),
 ];
 
 pub struct Session {
@@ -87,9 +86,9 @@ impl Session {
         });
     }
 
-    pub fn quick(&mut self, case: &Case, buffer: usize) -> Call {
+    pub fn quick(&mut self, case: &Case, buffer: usize) {
         let sheet = self.bytes(buffer);
-        self.call(case, Input::quick(&case.text, &sheet))
+        self.call(case, Input::quick(&case.text, &sheet));
     }
 
     pub fn read_sheet(&mut self, case: &Case, sheet: &[u8]) {
@@ -173,29 +172,6 @@ impl Session {
         let input = Input::plan(&case.text, &words, &sheet);
         self.call_keeping(&case.outcome(input), case, input, |call| {
             pool::broken(both, &call.answer.first)
-        });
-    }
-
-    /// The list of a book, with so many bytes lent for it.
-    pub fn list(&mut self, case: &Case, buffer: usize) {
-        let buffer = self.bytes(buffer);
-        self.call(case, Input::list(&case.text, &buffer));
-    }
-
-    /// The three planners on a book that was read, with so many words and the bytes that a sheet needs, and then the list, with so
-    /// many bytes lent for it; what they left has to keep M-112's promise too.
-    pub fn list_planned(&mut self, case: &Case, words: usize, buffer: usize) {
-        let sheet = case.sheet_bytes();
-        let calls = [
-            self.plan(case, words, sheet),
-            self.plan_strict(case, words, sheet),
-            self.quick(case, sheet),
-        ];
-        let plans = calls.map(|call| call.left());
-        let buffer = self.bytes(buffer);
-        let input = Input::list(&case.text, &buffer);
-        self.call_keeping(&case.outcome(input), case, input, |call| {
-            list::broken(case, &call.left(), &plans)
         });
     }
 

@@ -61,7 +61,7 @@ fn read(trials: &mut Trials) -> Verdict {
             same(want, got)
         });
     }
-    for end in [".book", ".sheet", ".books", ".sheets", ".list"] {
+    for end in [".book", ".sheet", ".books", ".sheets"] {
         for file in project::files("examples", end)? {
             trials.check(&format!("{file} is used"), || used(&file, &blocks));
         }

@@ -1,5 +1,5 @@
 //! The C header and the examples: compares `include/jadeshuttle.h` with the Rattle source, compiles it and the examples as C99
-//! and as C++17, plans every example's book and day, pools the books of two mills, and lists all plans of small books.
+//! and as C++17, plans every example's book and day, and pools the books of two mills.
 
 use harness::abi::{self, Call, Parsed, Source, Struct, Type};
 use harness::project::{self, same, silent};
@@ -15,12 +15,8 @@ const PLANNED: [(&str, &str, &str); 2] = [
     (".books", ".sheets", "examples/day.cpp"),
 ];
 
-/// How the names of the strict planner's sheets end, and of lists; how their books' names end; the example that gives them, and
-/// its word for that.
-const OF_SOME: [(&str, &str, &str, Option<&str>); 2] = [
-    ("-strict.sheet", ".book", "examples/plan.c", Some("-s")),
-    (".list", ".book", "examples/list.cpp", None),
-];
+/// How the names of the strict planner's sheets end, and of their books; and the example's word for that planner.
+const STRICT: (&str, &str, &str, &str) = ("-strict.sheet", ".book", "examples/plan.c", "-s");
 
 /// The books of two mills, their pooled book, and the example that pools them.
 const POOLED: [&str; 4] = [
@@ -254,14 +250,13 @@ fn examples(trials: &mut Trials, scratch: &Path) -> Verdict {
             });
         }
     }
-    for (to, from, source, word) in OF_SOME {
-        for due in project::files("examples", to)? {
-            let file = due.replace(to, from);
-            trials.check(&format!("{file} gives {due}"), || {
-                let (_, printed) = project::run(Command::new(build(source, scratch)?).args(word).arg(&file))?;
-                same(project::bytes(&due)?, printed)
-            });
-        }
+    let (to, from, source, word) = STRICT;
+    for due in project::files("examples", to)? {
+        let file = due.replace(to, from);
+        trials.check(&format!("{file} gives {due}"), || {
+            let (_, printed) = project::run(Command::new(build(source, scratch)?).args([word, &file]))?;
+            same(project::bytes(&due)?, printed)
+        });
     }
     let [first, second, due, source] = POOLED;
     trials.check(&format!("{first} and {second} give {due}"), || {

@@ -15,7 +15,7 @@ use borrow.Author.Tests.{ltb-false}
 use Rattle.model.specs.declared.Answer.{Answer}
 use Rattle.model.specs.declared.Finding.TheVariants.{Passed}
 use Rattle.model.specs.declared.Refusal.TheVariants.{TooManyToList}
-use Rattle.model.specs.Lists.{Mem, Every, keep_if, keep, concat}
+use Rattle.model.specs.Lists.{Mem, Every, keep_if, keep}
 use Rattle.model.specs.Bounds.{most_listed, most_list}
 use Rattle.model.specs.Refusals.{Result, refused, done, ◌⇒◌, first, and_then}
 use Rattle.model.specs.Answers.{Writes, in_room}

@@ -10,7 +10,7 @@ use lib.ListN.{length, take}
 use Rattle.model.specs.declared.Answer.{Answer}
 use Rattle.model.specs.Frames.{field}
 use Rattle.model.specs.Refusals.{Result, refused, done, and_then}
-use Rattle.model.specs.Book.{Power, Problem, read_book}
+use Rattle.model.specs.Book.{Power}
 use Rattle.model.specs.Choice.{Choice, IsChoice, worth_of, plus, sum_in, square, apparent_squared}
 use Rattle.model.specs.Answers.{Writes, in_room}
 use Rattle.model.specs.Calls.{planner_result}

@@ -1,7 +1,6 @@
 -- `grid::grid_of` meets its contract. The invariant: the numbers are those of the slots from t on.
-use Prim.Native.Nat.{◌-◌, ◌≤◌}
+use Prim.Native.Nat.{◌≤◌}
 use Rattle.model.specs.Grid.{slots_of}
-use Rattle.model.specs.Trials.{cells}
 use Rattle.model.specs.Values.{problem_of}
 use Rattle.grid.proofs.GeometryLaws.{MadeFrom}
 use Rattle.grid.proofs.grid_of.Given as goal

@@ -1,5 +1,4 @@
 -- `hexadecimal::copy` meets its contract. The invariant: the first bytes are written.
-use Prim.Native.Nat.{◌-◌}
 use mathlib.Core.Path.{sym}
 use Rattle.hexadecimal.proofs.WrittenLaws.{written_none, copied_more}
 use borrow.Author.Rules.{rules}

@@ -1,5 +1,4 @@
 -- `hexadecimal::line_length` meets its contract. The invariant: what is left has the rest of the line.
-use Prim.Native.Nat.{◌-◌}
 use Rattle.hexadecimal.proofs.FieldLaws.{line_go, line_stop, line-end}
 use borrow.Author.Rules.{rules}
 use native.Mathlib.Omega.{arith}

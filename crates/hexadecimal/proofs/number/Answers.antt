@@ -1,5 +1,5 @@
 -- `hexadecimal::number` meets its contract. The invariant: the value is that of the digits passed.
-use Prim.Native.Nat.{◌+◌, ◌-◌}
+use Prim.Native.Nat.{◌+◌}
 use mathlib.Core.Path.{refl}
 use lib.ListN.{get_or}
 use Rattle.model.specs.Frames.{value_from, field}

@@ -1,6 +1,5 @@
 -- `hexadecimal::write` meets its contract. The invariant: the digits from the end are written, and `rest` is what is left of x.
 use mathlib.Core.Path.{refl}
-use Prim.Native.Nat.{◌-◌}
 use lib.ListN.{length-set}
 use Rattle.hexadecimal.proofs.WrittenLaws.{digits-none, digits_more}
 use native.Mathlib.Omega.{arith}

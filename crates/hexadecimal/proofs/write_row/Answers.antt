@@ -1,5 +1,4 @@
 -- `hexadecimal::write_row` meets its contract. The invariant: the numbers passed are written.
-use Prim.Native.Nat.{◌-◌}
 use mathlib.Core.Path.{refl, sym}
 use Rattle.hexadecimal.proofs.WrittenLaws.{written_none, row_more}
 use borrow.Author.Rules.{rules}

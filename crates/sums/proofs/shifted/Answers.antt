@@ -1,5 +1,4 @@
 -- `sums::shifted` meets its contract. The invariant: the entries of the slots passed are filled.
-use Prim.Native.Nat.{◌-◌}
 use Rattle.model.proofs.UptoLaws.{fill_all}
 use Rattle.sums.specs.Sums.{shifted_in, shifted}
 use native.Mathlib.Omega.{arith}

@@ -1,6 +1,5 @@
 -- `sums::sums_of` meets its contract. The invariant: the sums are those of the loads passed.
 use mathlib.Core.Path.{◌∙◌}
-use Prim.Native.Nat.{◌-◌}
 use Rattle.model.proofs.HeldLaws.{held-few}
 use Rattle.sums.specs.Sums.{sums_value}
 use borrow.Author.Rules.{rules}

@@ -1,6 +1,5 @@
 -- `sums::worth_of` meets its contract. The invariant: the worth is that of the loads passed.
 use mathlib.Core.Path.{refl, ◌∙◌}
-use Prim.Native.Nat.{◌-◌}
 use Rattle.model.specs.Choice.{worth_of}
 use Rattle.model.proofs.HeldLaws.{no_load, held-few}
 use borrow.Author.Rules.{rules}

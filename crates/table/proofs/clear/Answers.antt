@@ -1,5 +1,4 @@
 -- `table::clear` meets its contract. The invariant: the first j cells are empty, and every other cell is as it was.
-use Prim.Native.Nat.{◌-◌}
 use native.Mathlib.Omega.{arith}
 use Rattle.table.specs.Table.{no_cell, empty}
 use Rattle.table.proofs.WordLaws.{filled_more}

@@ -1,5 +1,4 @@
 -- `table::copy_row` meets its contract. The invariant: the first j cells are copied, and every other cell is as it was.
-use Prim.Native.Nat.{◌-◌}
 use native.Mathlib.Omega.{arith}
 use Rattle.table.proofs.WordLaws.{copied_more}
 use Rattle.table.proofs.copy_row.Goals as goal

@@ -1,6 +1,5 @@
 -- `table::count_row` meets its contract. The invariant: `count` is the number of reached cells among the first j.
 use native.Mathlib.Omega.{arith}
-use Prim.Native.Nat.{◌-◌}
 use Rattle.table.proofs.WordLaws.{counted-more}
 use Rattle.table.proofs.count_row.Goals as goal
 

@@ -1,5 +1,4 @@
 -- `table::offer_row` meets its contract. The invariant: the first j cells were offered their choice, and every other cell is as it was.
-use Prim.Native.Nat.{◌-◌}
 use native.Mathlib.Omega.{arith}
 use Rattle.table.proofs.WordLaws.{source_room, offered-more_row}
 use Rattle.table.proofs.offer_row.Goals as goal
