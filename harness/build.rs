@@ -1,4 +1,4 @@
-//! Links `libjadeshuttle.a` from the folder in JADESHUTTLE_ARCHIVE_DIR, or from where `rt staticlib` leaves it, and writes
+//! Links `libjadeshuttle.a` from the folder in JADESHUTTLE_ARCHIVE_DIR, or from where `tools/build` puts it, and writes
 //! the declarations of its calls from the Rattle source.
 
 #[path = "src/abi.rs"]
@@ -24,7 +24,7 @@ fn link(manifest: &Path) {
     let archive = folder.join("libjadeshuttle.a");
     assert!(
         archive.is_file(),
-        "{} is missing: run `rt staticlib jadeshuttle`, or set JADESHUTTLE_ARCHIVE_DIR",
+        "{} is missing: run tools/build, or set JADESHUTTLE_ARCHIVE_DIR",
         archive.display()
     );
     println!("cargo:rerun-if-changed={}", archive.display());

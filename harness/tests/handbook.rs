@@ -221,8 +221,8 @@ fn proved_quick(book: &str) -> Verdict {
     let (numbers, printed) = shown(answer, &sheet);
     let room = sheet.len();
     proved(&[
-        format!("quickPrints {name} {printed}\n"),
-        format!("shows quickIn (bytesOf {name}) [] {room} {numbers} {printed}\n"),
+        format!("quick_prints {name} {printed}\n"),
+        format!("shows quick_in (bytes_of {name}) [] {room} {numbers} {printed}\n"),
     ])
 }
 

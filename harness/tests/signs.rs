@@ -29,7 +29,7 @@ fn main() -> ExitCode {
 }
 
 /// The crates of the reader, on whose way the digits of Q and of -Q differ.
-const READER: [&str; 4] = ["hex", "header", "loadline", "book"];
+const READER: [&str; 4] = ["hexadecimal", "header", "loadline", "book"];
 
 /// The crates that both ways share.
 const SHARED: [&str; 1] = ["model"];

@@ -1,15 +1,13 @@
-// Whether sums keep limits, whether those of a choice keep its book's, and whether the choice of a code does.
+// Whether the sums of a choice keep the limits, and whether the choice of a code does.
 #![tactic(auto)]
 
-ghost use Rattle.std.specs.Prelude.{◌≡◌, ℕ, ◌<◌, ◌≤◌, length, get_or};
+ghost use Rattle.std.specs.Prelude.{◌≡◌, ◌+◌, ◌-◌, ◌<◌, leb, length};
 ghost use Rattle.model.specs.Lists.{Every};
-ghost use Rattle.model.specs.Bounds.{most_slots, most_loads, most_limit};
-ghost use Rattle.model.specs.Choice.{Choice};
+ghost use Rattle.model.specs.Choice.{Choice, square};
 ghost use Rattle.model.specs.Grid.{slots_of, keeps_limits};
 ghost use Rattle.model.specs.Valid.{SettingSmall};
 ghost use Rattle.model.specs.Values.{Held, IsCode, choice_coded, problem_of};
 ghost use Rattle.sums.specs.Sums.{sums_value, SumsSmall};
-ghost use Rattle.limits.specs.Kept.{fits_in, kept};
 
 use model::Book;
 use sums::Sums;
@@ -17,28 +15,10 @@ use sums::Sums;
 // P² + Q² ≤ S², where q is Q + zero.
 fn fits(p: u64, q: u64, zero: u64, limit: u64) -> bool
     requires { (p < 2147483648) × (q < 2147483648) × (zero < 2147483648) × (limit < 65536) }
-    ensures { result ≡ fits_in p q zero limit }
+    ensures { result ≡ leb (square p + square ((q - zero) + (zero - q))) (square limit) }
 {
     let size = model::distance(q, zero);
     p * p + size * size <= limit * limit
-}
-
-// The sums of `count` loads keep the limits, one a slot.
-pub fn within(sums: Sums, limits: &[u64], count: usize) -> bool
-    requires sums_small { SumsSmall sums }
-    requires limits_len_bound { (length limits.now ≤ most_slots) × (count ≤ most_loads) }
-    requires by_index { (s : ℕ) → s < length limits.now → get_or limits.now s 0 ≤ most_limit }
-    ensures { result ≡ kept sums count limits.now }
-{
-    let zero = 32768 * count as u64;
-    let mut s: usize = 0;
-    while s < limits.len() {
-        if !fits(sums.actives[s], sums.reactives[s], zero, limits[s]) {
-            return false;
-        }
-        s += 1;
-    }
-    true
 }
 
 // The sums of a choice of the book's loads keep every limit.
@@ -48,9 +28,15 @@ pub fn keeps(sums: Sums, book: Book) -> bool
     ensures { (c : Choice) → sums ≡ sums_value c → Every SettingSmall c → length c ≡ length (problem_of book).loads
         → result ≡ keeps_limits (slots_of (problem_of book)) c }
 {
-    let limits = book.limits;
-    let slots = book.slots;
-    within(sums, &limits[..slots], book.count)
+    let zero = 32768 * book.count as u64;
+    let mut s: usize = 0;
+    while s < book.slots {
+        if !fits(sums.actives[s], sums.reactives[s], zero, book.limits[s]) {
+            return false;
+        }
+        s += 1;
+    }
+    true
 }
 
 // Whether the choice of a code keeps every limit.

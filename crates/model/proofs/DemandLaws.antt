@@ -14,8 +14,6 @@ use lib.Dec as Dec
 use lib.IntN.{ℤ, pos, nat_abs, ◌+ℤ◌}
 use lib.ListN.{length, get_or, drop}
 use Rattle.model.specs.Lists.{Mem, Every}
-use Rattle.model.specs.declared.Answer.{Answer}
-use Rattle.model.specs.Frames.{field}
 use Rattle.model.specs.Refusals.{Result, done}
 use Rattle.model.specs.Book.{Setting, Settings, Problem, read_book}
 use Rattle.model.specs.Choice.{Choice, IsChoice, no_setting, worth_of, sum_in, square, apparent_squared}
@@ -25,7 +23,7 @@ use Rattle.model.specs.Sheet.{sheet_bytes}
 use Rattle.model.specs.Calls.{planned, planner_result}
 use Rattle.model.specs.Demand.{Past12, apparent_squared_in, S, T, N, KeepsLimits, OnSheet, CloserOverload, Demand3}
 use Rattle.model.specs.Valid.{SettingSmall, ValidBook}
-use Rattle.model.specs.Answers.{Output, answer_of, buffer_after, Writes}
+use Rattle.model.specs.Answers.{Output, answer_of, buffer_after}
 use Rattle.model.proofs.ListLaws.{every_mem, all-is}
 use Rattle.model.proofs.UptoLaws.{suc_across}
 use Rattle.model.proofs.ChoiceLaws.{choice_every, worth_most}
@@ -33,8 +31,7 @@ use Rattle.model.proofs.AdmissionLaws.{square_abs, abs_offset, of_admits, Rounde
 use Rattle.model.proofs.PlanLaws.{kept-sound, plan-worth, chosen_length}
 use Rattle.model.proofs.ValidLaws.{book-valid}
 use Rattle.model.proofs.MustRunLaws.{book-runs}
-use Rattle.model.proofs.RefusalLaws.{done-same}
-use Rattle.model.proofs.SheetGivenLaws.{past-only, past_result, none-keeps}
+use Rattle.model.proofs.SheetGivenLaws.{past-only, past_result}
 use Rattle.model.proofs.NumberLaws.{numbers-small}
 use Rattle.model.proofs.SheetLaws.{worth_on, numbers_on}
 use Rattle.model.proofs.Squares.{sq_mono}
@@ -223,27 +220,3 @@ demand3 book words before e =
         → Demand3 book (buffer_after (planned b m) before)
     go b reads none q z = absurd (omega arith)
     go b reads (some c) q z = sheet_demand3 book b c (trials b) (drop (length (sheet_bytes b c (trials b))) before) reads q
-
--- ---- a choice that keeps every limit, and a call of the planner: a sheet is worth at least as much, and 17 is not given
-
-module _ (book : List ℕ) (b : Problem) (reads : read_book book ≡ done b) (c : Choice) (chosen : IsChoice b.loads c) (keeps : KeepsLimits b c)
-    (words : ℕ) (before after : List ℕ) (answer : Answer) (w : Writes (planner_result book words (length before)) before after answer) where
-  the_number : {n : ℕ} → answer.number ≡ n → (answer_of (planner_result book words (length before))).number ≡ n
-  the_number h = sym (ap (λ (a : Answer). a.number) w.answers) ∙ h
-
-  keeping_worth : answer.number ≡ 0 → worth_of c ≤ field after 2 8
-  keeping_worth h =
-      let x : Demand3 book (buffer_after (planner_result book words (length before)) before) = demand3 book words before (the_number h) in
-      let same : b ≡ x.b = done-same b x.b (sym reads ∙ x.reads) in
-      let most : worth_of c ≤ worth_of x.choice
-      = x.worth c (subst (λ (y : Problem). IsChoice y.loads c) same chosen) (subst (λ (y : Problem). KeepsLimits y c) same keeps) in
-      subst (λ sheet. worth_of c ≤ field sheet 2 8) (sym w.leaves) (omega (arith, most, x.on_sheet.worth))
-
-  keeping_planned : answer.number ≡ 17 → ⊥
-  keeping_planned h =
-      let x : (y : Problem) × (read_book book ≡ done y) × ((d : Choice) → IsChoice y.loads d → Dec.T (keeps_limits (slots_of y) d) → ⊥) = none-keeps book words (length before) (the_number h) in
-      let same : b ≡ x.0 = done-same b x.0 (sym reads ∙ x.1) in
-      x.2 c (subst (λ (y : Problem). IsChoice y.loads c) same chosen) ((keeps-is x.0 c).1 (subst (λ (y : Problem). KeepsLimits y c) same keeps))
-
-  pub keeping_call : (answer.number ≡ 0 → worth_of c ≤ field after 2 8) × (answer.number ≡ 17 → ⊥)
-  keeping_call = (keeping_worth, keeping_planned)

@@ -48,5 +48,4 @@ pub mod LengthLaws
 pub mod HeaderLaws
 pub mod PoolLaws
 pub mod JointLaws
-pub mod AllPlansLaws
 pub mod AcceptanceTable

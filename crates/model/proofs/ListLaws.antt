@@ -5,12 +5,11 @@ use mathlib.Core.Logic.{inl, inr, ◌↔◌}
 use mathlib.Core.Bool.{Bool, true, false, cond, not, ◌&&◌, ◌||◌, false≢true}
 use mathlib.Core.List.{List, [], ◌∷◌, ◌++◌, map, append_assoc, append-nil}
 use Prim.Native.Nat.{ℕ, zero, suc, ◌+◌, ◌*◌, ◌<◌, ◌≤◌}
-use native.Mathlib.Nat.{le_of_suc-le-suc, mul-zero}
+use native.Mathlib.Nat.{le_of_suc-le-suc}
 use native.Mathlib.Numerals.{add-one}
 use native.Mathlib.Omega.{arith}
 use lib.Dec.{T, leb, eqb}
 use lib.ListN.{length, get_or, take, drop, set, length-append}
-use lib.Seq.{take_at, drop_at, drop-drop}
 use borrow.Author.Tests.{leb-true, le-leb, eqb-true, eq-eqb}
 use Rattle.model.specs.Lists.{within, sum_below, Mem, Every, keep, keep_if, all, any, concat, same_lists}
 
@@ -273,23 +272,9 @@ below_same f g (suc n) h = ap₂ ◌+◌ (below_same f g n (λ s l. h s (omega a
 
 -- ---- lists one after the other, and lists compared
 
--- pieces of one length, one after the other: the length of all, and the piece at a place
-pub length_pieces : {A B : Type 0} (f : A → List B) (k : ℕ) (xs : List A) → Every (λ x. length (f x) ≡ k) xs → length (concat (map f xs)) ≡ k * length xs
-length_pieces f k [] h = omega arith
-length_pieces f k (x ∷ xs) h = length-append (f x) (concat (map f xs)) ∙ (omega (arith, h.0, length_pieces f k xs h.1))
-
-pub piece_at : {A B : Type 0} (f : A → List B) (k : ℕ) (xs : List A) (d : A) → Every (λ x. length (f x) ≡ k) xs → (i : ℕ) → i < length xs
-    → take k (drop (k * i) (concat (map f xs))) ≡ f (get_or xs i d)
-piece_at f k [] d h i l = absurd (omega arith)
-piece_at f k (x ∷ xs) d h zero l = ap (λ n. take k (drop n (f x ++ concat (map f xs)))) (mul-zero k) ∙ take_at (f x) (concat (map f xs)) k h.0
-piece_at f k (x ∷ xs) d h (suc i) l =
-    let next : k * suc i ≡ k + k * i = omega arith in
-    ap (λ n. take k (drop n (f x ++ concat (map f xs)))) next
-    ∙ ap (take k) (sym (drop-drop (k * i) k (f x ++ concat (map f xs))) ∙ ap (drop (k * i)) (drop_at (f x) (concat (map f xs)) k h.0))
-    ∙ piece_at f k xs d h.1 i (le_of_suc-le-suc l)
-
 pub length-concat : {A B : Type 0} (f : A → List B) (k : ℕ) → ((x : A) → length (f x) ≡ k) → (xs : List A) → length (concat (map f xs)) ≡ k * length xs
-length-concat f k h xs = length_pieces f k xs (every_all (λ x. length (f x) ≡ k) xs h)
+length-concat f k h [] = omega arith
+length-concat f k h (x ∷ xs) = length-append (f x) (concat (map f xs)) ∙ (omega (arith, h x, length-concat f k h xs))
 
 pub concat-join : {A : Type 0} (xss yss : List (List A)) → concat (xss ++ yss) ≡ concat xss ++ concat yss
 concat-join [] yss = refl

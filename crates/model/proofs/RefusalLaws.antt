@@ -7,7 +7,7 @@ use mathlib.Core.List.{List, [], ◌∷◌}
 use Prim.Native.Nat.{ℕ, ◌≤◌}
 use native.Mathlib.Omega.{arith}
 use Rattle.model.specs.declared.Refusal.{Refusal}
-use Rattle.model.specs.declared.Refusal.TheVariants.{Unterminated, NotHex, WrongKind, SlotsOrOptionsOutOfRange, WrongLength, LoadsOrFinenessOutOfRange, ReactiveExceedsActive, TrailingBytes, TooManyCells, WorkTooSmall, BufferTooSmall, BudgetExceeded, ForeignSheet, WrongPriceCount, WrongNames, NamedLoadStands, NoPlan, TooManyBooks, OutputTooLong, TooCoarse, SlotsOrFinenessDiffer, TooManyLoads, LimitSumTooLarge, TooManyToList}
+use Rattle.model.specs.declared.Refusal.TheVariants.{Unterminated, NotHex, WrongKind, SlotsOrOptionsOutOfRange, WrongLength, LoadsOrFinenessOutOfRange, ReactiveExceedsActive, TrailingBytes, TooManyCells, WorkTooSmall, BufferTooSmall, BudgetExceeded, ForeignSheet, WrongPriceCount, WrongNames, NamedLoadStands, NoPlan, TooManyBooks, OutputTooLong, TooCoarse, SlotsOrFinenessDiffer, TooManyLoads, LimitSumTooLarge}
 use Rattle.model.specs.declared.Finding.{Finding}
 use Rattle.model.specs.declared.Finding.TheVariants.{Passed, Refused}
 use Rattle.model.specs.Lists.{Every}
@@ -107,7 +107,6 @@ number-some TooCoarse e = omega arith
 number-some SlotsOrFinenessDiffer e = omega arith
 number-some TooManyLoads e = omega arith
 number-some LimitSumTooLarge e = omega arith
-number-some TooManyToList e = omega arith
 
 -- a refusal, where there is one, has a number of at most n
 module _ (n : ℕ) where

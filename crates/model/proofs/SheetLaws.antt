@@ -29,7 +29,7 @@ use Rattle.model.proofs.ValidLaws.{book-valid}
 
 -- ---- the length
 
-pub length-numbers : (c : Choice) → length (numbers_of c) ≡ 2 * length c
+length-numbers : (c : Choice) → length (numbers_of c) ≡ 2 * length c
 unfolding numbers_of
 length-numbers c = length-concat (λ v. digits 2 v.number) 2 (λ v. length_digits 2 v.number) c
 

@@ -1,6 +1,6 @@
--- Document 01's bounds, those of document 02's M-107, M-108 and M-112, and the sizes that follow from them, each number once. The code has them as constants of the
+-- Document 01's bounds, those of document 02's M-107 and M-108, and the sizes that follow from them, each number once. The code has them as constants of the
 -- types that they bound, the program's two in crate program, and the longest line and book not at all. The largest charges follow from them too.
-use Rattle.std.specs.Prelude.{ℕ, ◌*◌, ◌+◌, ◌/◌, ◌^◌}
+use Rattle.std.specs.Prelude.{ℕ, ◌*◌, ◌+◌, ◌/◌}
 
 -- "T is the number of slots (quarter hours), 1 to 4. N is the number of loads, 1 to 24. d, the fineness, is 1 to 64. o, the options (levels) of a
 -- load, is 1 to 3."
@@ -59,16 +59,6 @@ most_books = 32
 
 abbrev pub most_day : ℕ
 most_day = most_books * most_sheet
-
--- "For up to 6 loads" (document 02, M-112); the bytes of the longest line of a list, two digits a load and LF, and of the longest list, with a line for each choice
-abbrev pub most_listed : ℕ
-most_listed = 6
-
-abbrev pub most_list_line : ℕ
-most_list_line = 2 * most_listed + 1
-
-abbrev pub most_list : ℕ
-most_list = most_settings ^ most_listed * most_list_line
 
 -- "The program takes the first 4,096 bytes of its input as the book", "lends 6,144 words"
 abbrev pub program_bytes : ℕ

@@ -4,7 +4,7 @@
 -- Of document 02: Rounding (M-102), a field of Demand3 (M-106), Charge (M-100 and M-111), Order (M-101), Views (M-103) and Day (M-107); M-104 changes sentences of
 -- Book, Calls and Quick, and Answered in Demand is of it; M-105 changes sentences of Book and Quick, and by that what Trials, Calls, SheetReader and
 -- Demand say, and MustRun says what it means for choices; M-108 changes sentences of Book and Trials, and Ratio says what it means for cells and plans; Strict is
--- M-109, Pool M-110, and AllPlans M-112.
+-- M-109, and Pool M-110.
 pub mod Lists
 pub mod Bounds
 pub mod Frames
@@ -33,4 +33,3 @@ pub mod Day
 pub mod Ratio
 pub mod Strict
 pub mod Pool
-pub mod AllPlans

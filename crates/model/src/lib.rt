@@ -32,7 +32,6 @@ pub enum Refusal {
     SlotsOrFinenessDiffer,
     TooManyLoads,
     LimitSumTooLarge,
-    TooManyToList,
 }
 
 // What the table of refusals says: none applies, or the first that does.
@@ -43,8 +42,8 @@ pub enum Finding {
 }
 
 // What a public call answers. Success has number 0 and line 0.
-#[repr(C)]
 #[derive(Clone, Copy)]
+#[repr(C)]
 pub struct Answer {
     pub number: u64,
     pub line: u64,
@@ -54,24 +53,24 @@ pub struct Answer {
 }
 
 // What the sheet reader answers: the code of the sheet's choice after the rest.
-#[repr(C)]
 #[derive(Clone, Copy)]
+#[repr(C)]
 pub struct SheetAnswer {
     pub answer: Answer,
     pub code: u64,
 }
 
 // What the charge of a plan answers: the charge, in hundredths of a unit of money, after the rest.
-#[repr(C)]
 #[derive(Clone, Copy)]
+#[repr(C)]
 pub struct ChargeAnswer {
     pub answer: Answer,
     pub charge: u64,
 }
 
 // What the order of starting answers: how many loads start, and how many stop, after the rest.
-#[repr(C)]
 #[derive(Clone, Copy)]
+#[repr(C)]
 pub struct OrderAnswer {
     pub answer: Answer,
     pub starts: u64,
@@ -130,7 +129,7 @@ impl Load {
 
 impl Book {
     // Document 01's upper bounds of T, N, d and o, and M-108's of r; each lower bound is 1. Then of a limit, which may be 0, of the cells, and the bytes of the
-    // longest sheet; of a day's books (M-107), and the bytes of a day's longest output; of the loads of a book whose choices are listed (M-112).
+    // longest sheet; of a day's books (M-107), and the bytes of a day's longest output.
     pub const SLOTS: usize = 4;
 
     pub const LOADS: usize = 24;
@@ -150,8 +149,6 @@ impl Book {
     pub const BOOKS: usize = 32;
 
     pub const DAY: usize = Book::BOOKS * Book::SHEET;
-
-    pub const LISTED: usize = 6;
 
     pub fn fresh() -> Book
         ensures { result ≡ fresh_book }
@@ -197,7 +194,6 @@ impl Refusal {
             Refusal::SlotsOrFinenessDiffer => 21,
             Refusal::TooManyLoads => 22,
             Refusal::LimitSumTooLarge => 23,
-            Refusal::TooManyToList => 24,
         }
     }
 }

@@ -12,7 +12,7 @@ use Rattle.model.specs.Bounds.{most_loads}
 use Rattle.model.specs.Book.{Power, Setting, Settings, Problem}
 use Rattle.model.specs.Choice.{Choice, IsChoice, no_setting, setting_of, least_of, plus, power_in, sum_in}
 use Rattle.model.specs.Valid.{SettingSmall, ValidBook}
-use Rattle.model.specs.Values.{raised, raised_by, load_value}
+use Rattle.model.specs.Values.{raised_by, load_value}
 use Rattle.model.proofs.ListLaws.{every_at, every_set}
 use Rattle.model.proofs.UptoLaws.{get_d_upto, upto_is}
 use Rattle.model.proofs.ChoiceLaws.{snoc, plus_comm, sum_last}
@@ -159,15 +159,6 @@ reactives_of vs sized =
 pub sums_small : (c : Choice) → Every SettingSmall c → length c ≤ most_loads → SumsSmall (sums_value c)
 unfolding sums_value
 sums_small c small few = record { active = entries_small active_adds c small few; reactive = entries_small reactive_adds c small few }
-
--- one load more in front, in slot s
-module _ (v : Setting) (w : SettingSmall v) (c : Choice) (small : Every SettingSmall c) (s : ℕ) (four : s < 4) where
-  pub first-active : get_or (sums_value (v ∷ c)).actives s 0 ≡ get_or (sums_value c).actives s 0 + (power_in s v).p
-  first-active = omega (arith, sums-active (v ∷ c) s four, sums-active c s four)
-
-  pub first-reactive : get_or (sums_value (v ∷ c)).reactives s 0 ≡ get_or (sums_value c).reactives s 0 + raised (power_in s v).q
-  first-reactive =
-      omega (arith, sums-reactive (v ∷ c) s four, sums-reactive c s four, entry_first reactive_adds c small v w s, raised_one (power_in s v).q)
 
 pub can_add : (c : Choice) (vs : Settings) (j : ℕ) → Every SettingSmall c → length c ≤ most_loads → Every SettingSmall vs → j < 4
     → CanAdd (sums_value c) (load_value vs) j

@@ -17,7 +17,7 @@ pub struct Sums {
 }
 
 impl Sums {
-    pub fn none() -> Sums
+    fn none() -> Sums
         ensures { result ≡ sums_value [] }
     {
         Sums {

@@ -1,39 +1,51 @@
--- `limits::keeps` meets its contract: the limits of the book's slots are those of its problem.
-use Rattle.std.proofs.Common.{refl, sym, ◌∙◌, ap, ap₂, length, take, arith, ◌≤◌}
-use lib.Seq.{length-take-le}
-use Rattle.limits.specs.Kept.{kept}
-use Rattle.model.specs.Bounds.{most_limit}
+-- `limits::keeps` meets its contract. The invariant: the slots that are left decide.
+use mathlib.Core.Path.{◌∙◌}
+use Prim.Native.Nat.{◌-◌}
 use Rattle.model.specs.Values.{problem_of}
-use Rattle.model.proofs.ListLaws.{every_get_d}
-use Rattle.model.proofs.HeldLaws.{held_four, held-few, held-slots, held-count, held-valid}
-use Rattle.limits.proofs.KeepLaws.{kept-is, limits_room}
+use Rattle.model.proofs.HeldLaws.{held-slots, held-few, held_four, held-limit-small}
+use borrow.Author.Rules.{rules}
+use native.Mathlib.Omega.{arith}
+use Rattle.limits.proofs.KeepLaws.{keeps-all, keeps_go, keeps_stop, keeps-end, entry_kept}
 use Rattle.limits.proofs.keeps.Goals as goal
 
-pub slice_bounds-limits-end : goal.slice_bounds-limits-end
-slice_bounds-limits-end c = omega (arith, held_four c.args.book c.requires.held, limits_room c.args.book c.requires.held)
+pub overflow_mul-zero : goal.overflow_mul-zero
+overflow_mul-zero c = omega (arith, held-few c.args.book c.requires.held)
 
-pub slice_bounds-within-end : goal.slice_bounds-within-end
-slice_bounds-within-end c =
-    sym (length-take-le c.args.book.slots c.args.book.limits (omega (arith, held_four c.args.book c.requires.held, limits_room c.args.book c.requires.held)))
+pub loop-s-init : goal.loop-s-init
+loop-s-init c = (search rules, held_four c.args.book c.requires.held, λ choice is small sized. keeps-all (problem_of c.args.book) choice)
 
-pub within-requires-clause-limits_len_bound : goal.within-requires-clause-limits_len_bound
-unfolding problem_of
-within-requires-clause-limits_len_bound c =
-    let v = c.args.book in
-    let h = c.requires.held in
-    (omega (arith, held_four v h, held-slots v h), held-few v h)
+pub fits-requires : goal.fits-requires
+fits-requires c =
+    let s = c.loop-s.s in
+    (
+      c.requires.sums_small.active s (omega arith),
+      c.requires.sums_small.reactive s (omega arith),
+      omega (arith, held-few c.args.book c.requires.held),
+      omega (arith, held-limit-small c.args.book c.requires.held s (omega (arith, held_four c.args.book c.requires.held))),
+    )
 
-pub within-requires-clause-by_index : goal.within-requires-clause-by_index
-unfolding problem_of
-within-requires-clause-by_index c s l =
-    let v = c.args.book in
-    every_get_d (λ x. x ≤ most_limit) (problem_of v).limits 0 (omega arith) (held-valid v c.requires.held).limits_small s
+pub returns-then-not-fits : goal.returns-then-not-fits
+returns-then-not-fits c =
+    let l = c.loop-s in
+    λ choice is small sized.
+    keeps_stop (problem_of c.args.book) choice l.s _ (omega (arith, held-slots c.args.book c.requires.held))
+    (entry_kept c.args.book c.requires.held c.args.sums choice is small sized l.s (omega arith) c.fits.result c.fits.ensures ∙ c.if-not-fits.true)
+    (l.invariant.2 choice is small sized)
+
+pub loop-s-preserved : goal.loop-s-preserved
+loop-s-preserved c =
+    let l = c.loop-s in
+    (
+      search rules,
+      search rules,
+      λ choice is small sized.
+          keeps_go (problem_of c.args.book) choice l.s _ (omega (arith, held-slots c.args.book c.requires.held))
+          (entry_kept c.args.book c.requires.held c.args.sums choice is small sized l.s (omega arith) c.fits.result c.fits.ensures ∙ c.if-not-fits.false)
+          (l.invariant.2 choice is small sized),
+    )
 
 pub returns : goal.returns
-unfolding problem_of
-returns c choice is small sized =
-    let v = c.args.book in
-    let h = c.requires.held in
-    c.within.ensures
-    ∙ ap₂ (λ s n. kept s n (take v.slots v.limits)) is (held-count v h)
-    ∙ kept-is choice small (problem_of v) (omega (arith, held_four v h, held-slots v h)) sized
+returns c =
+    let l = c.loop-s in
+    λ choice is small sized.
+    keeps-end (problem_of c.args.book) choice l.s _ (omega (arith, held-slots c.args.book c.requires.held)) (l.invariant.2 choice is small sized)

@@ -20,17 +20,15 @@ sums_of-requires-clause-picked c = held-code-picked c.args.book c.requires.held 
 pub keeps-requires-clause-sums_small : goal.keeps-requires-clause-sums_small
 keeps-requires-clause-sums_small c =
     let b = problem_of c.args.book in
-    let d = c.requires.code in
-    let is = c.sums_of.ensures ∙ ap sums_value (held-code-choice c.args.book c.requires.held d _ c.picks_of-picks.ensures) in
-    subst SumsSmall (sym is) (choice-sums b (held-valid c.args.book c.requires.held) d.choice d.of_book)
+    let is = c.sums_of.ensures ∙ ap sums_value (held-code-choice c.args.book c.requires.held c.requires.code _ c.picks_of-picks.ensures) in
+    subst SumsSmall (sym is) (choice-sums b (held-valid c.args.book c.requires.held) c.requires.code.choice c.requires.code.of_book)
 
 pub returns : goal.returns
 returns c =
     let b = problem_of c.args.book in
     let valid = held-valid c.args.book c.requires.held in
-    let d = c.requires.code in
-    c.keeps.ensures d.choice
-    (c.sums_of.ensures ∙ ap sums_value (held-code-choice c.args.book c.requires.held d _ c.picks_of-picks.ensures))
-    (choice-small b valid d.choice d.of_book)
-    (chosen_length b.loads d.choice d.of_book)
-    ∙ ap (keeps_limits (slots_of b)) (sym (ap (choice_coded b) d.is ∙ coded_choice b valid d.choice d.of_book))
+    c.keeps.ensures c.requires.code.choice
+    (c.sums_of.ensures ∙ ap sums_value (held-code-choice c.args.book c.requires.held c.requires.code _ c.picks_of-picks.ensures))
+    (choice-small b valid c.requires.code.choice c.requires.code.of_book)
+    (chosen_length b.loads c.requires.code.choice c.requires.code.of_book)
+    ∙ ap (keeps_limits (slots_of b)) (sym (ap (choice_coded b) c.requires.code.is ∙ coded_choice b valid c.requires.code.choice c.requires.code.of_book))

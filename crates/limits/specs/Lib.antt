@@ -1,2 +1,0 @@
--- What the contracts of `limits` cite.
-pub mod Kept
