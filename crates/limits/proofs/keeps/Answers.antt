@@ -1,6 +1,5 @@
 -- `limits::keeps` meets its contract. The invariant: the slots that are left decide.
 use mathlib.Core.Path.{◌∙◌}
-use Prim.Native.Nat.{◌-◌}
 use Rattle.model.specs.Values.{problem_of}
 use Rattle.model.proofs.HeldLaws.{held-slots, held-few, held_four, held-limit-small}
 use borrow.Author.Rules.{rules}
@@ -16,8 +15,7 @@ loop-s-init c = (search rules, held_four c.args.book c.requires.held, λ choice 
 
 pub fits-requires : goal.fits-requires
 fits-requires c =
-    let s = c.loop-s.s in
-    (
+    let s = c.loop-s.s in (
       c.requires.sums_small.active s (omega arith),
       c.requires.sums_small.reactive s (omega arith),
       omega (arith, held-few c.args.book c.requires.held),
@@ -34,8 +32,7 @@ returns-then-not-fits c =
 
 pub loop-s-preserved : goal.loop-s-preserved
 loop-s-preserved c =
-    let l = c.loop-s in
-    (
+    let l = c.loop-s in (
       search rules,
       search rules,
       λ choice is small sized.
