@@ -16,7 +16,6 @@ use Rattle.model.proofs.RefusalLaws.{first_here, first_next, first_last}
 use Rattle.model.proofs.LengthLaws.{ratio_few}
 use Rattle.model.proofs.ListLaws.{first_out, second_out, none_out}
 use native.Mathlib.Omega.{arith}
-use borrow.Author.Rules.{rules}
 use Rattle.header.proofs.header_finding.Goals as goal
 
 -- the rules from number k on decide

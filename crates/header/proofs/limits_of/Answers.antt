@@ -1,5 +1,5 @@
 -- `header::limits_of` meets its contract. The invariant: the first s entries are filled.
-use Prim.Native.Nat.{ℕ, ◌-◌}
+use Prim.Native.Nat.{ℕ}
 use lib.ListN.{get_or, length-set}
 use Rattle.model.specs.Book.{limits_in}
 use Rattle.model.proofs.UptoLaws.{fill_more}

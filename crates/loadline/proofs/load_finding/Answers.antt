@@ -13,7 +13,6 @@ use Rattle.model.proofs.RefusalLaws.{first_here, first_next, first_last}
 use Rattle.hexadecimal.proofs.RangeLaws.{ranged, in_range_lem}
 use Rattle.model.proofs.LengthLaws.{pairs_most}
 use native.Mathlib.Omega.{arith}
-use borrow.Author.Rules.{rules}
 use Rattle.loadline.proofs.load_finding.Goals as goal
 
 -- the rules from number k on decide

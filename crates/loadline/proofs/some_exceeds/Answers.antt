@@ -1,10 +1,9 @@
 -- `loadline::some_exceeds` meets its contract. The invariants: no setting passed exceeds in any slot, and this one in no slot passed.
-use Prim.Native.Nat.{◌+◌, ◌-◌}
+use Prim.Native.Nat.{◌+◌}
 use mathlib.Core.Path.{◌≡◌, sym, ap, ◌∙◌}
-use mathlib.Core.Bool.{false}
 use mathlib.Core.List.{map}
 use Rattle.model.specs.Lists.{upto, any}
-use Rattle.model.specs.Book.{option_count, settings, reactive_exceeds}
+use Rattle.model.specs.Book.{option_count, reactive_exceeds}
 use Rattle.model.proofs.UptoLaws.{any_here, any-more}
 use Rattle.loadline.proofs.LineLaws.{exceeds_in, exceeds_is}
 use borrow.Author.Rules.{rules}

@@ -1,5 +1,5 @@
 -- `loadline::worths_of` meets its contract. The invariant: the first c entries are filled.
-use Prim.Native.Nat.{ℕ, ◌-◌}
+use Prim.Native.Nat.{ℕ}
 use lib.ListN.{length-set}
 use Rattle.model.specs.Book.{settings}
 use Rattle.model.specs.Choice.{setting_of}
