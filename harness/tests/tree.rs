@@ -86,7 +86,7 @@ fn files(folder: &str, end: &str) -> Result<Vec<File>, String> {
         }
         for path in project::files(&place, end)? {
             found.push(File {
-                text: project::text(&path)?,
+                text: ungrouped(&project::text(&path)?),
                 krate: krate.clone(),
                 path,
             });
@@ -98,6 +98,35 @@ fn files(folder: &str, end: &str) -> Result<Vec<File>, String> {
     }
 }
 
+/// The text with an import of several names in braces as one import for each.
+fn ungrouped(text: &str) -> String {
+    let mut lines = Vec::new();
+    let mut rest = text.lines();
+    while let Some(line) = rest.next() {
+        let Some(head) = group(line) else {
+            lines.push(line.to_string());
+            continue;
+        };
+        let mut names = line[head.len() + 3..].to_string();
+        while !names.ends_with("};") {
+            names += rest.next().unwrap_or("};");
+        }
+        let names = names.trim_end_matches("};").split(',').map(str::trim);
+        lines.extend(
+            names
+                .filter(|name| !name.is_empty())
+                .map(|name| format!("{head}::{name};")),
+        );
+    }
+    lines.join("\n")
+}
+
+/// What stands before the braces of `use path::{name, name};`.
+fn group(line: &str) -> Option<&str> {
+    let (head, _) = line.split_once("::{")?;
+    head.trim_start_matches("pub ").starts_with("use ").then_some(head)
+}
+
 fn none(found: Vec<String>) -> Verdict {
     match found.is_empty() {
         true => Ok(()),
@@ -105,11 +134,16 @@ fn none(found: Vec<String>) -> Verdict {
     }
 }
 
-/// Imports of definitions under `proofs/`.
+/// Imports of definitions under `proofs/`. Those of the library count as its definitions, wherever it keeps them.
 fn cited_proofs(files: &[File]) -> Vec<String> {
     let cites = |line: &str| {
         let import = line.strip_prefix("ghost ").unwrap_or(line).strip_prefix("use ");
-        import.is_some_and(|import| import.split(' ').next().is_some_and(|path| path.contains(".proofs.")))
+        import.is_some_and(|import| {
+            import
+                .split(' ')
+                .next()
+                .is_some_and(|path| path.contains(".proofs.") && !path.starts_with("Rattle.std."))
+        })
     };
     let lines = files
         .iter()

@@ -1,7 +1,5 @@
 -- `day::book_end` meets its contract. The invariant: what is left has the rest of the book.
-use Prim.Native.Nat.{◌-◌}
-use mathlib.Core.Bool.{true, ◌&&◌}
-use mathlib.Core.Logic.{⊎_elim}
+use mathlib.Core.Bool.{◌&&◌}
 use mathlib.Core.Path.{sym, ap₂}
 use Rattle.model.proofs.ListLaws.{when_false}
 use Rattle.day.proofs.SplitLaws.{end_here, end_later, end_last}

@@ -1,12 +1,11 @@
 -- `day::day` meets its contract: 18, then what all books put out, and with it 19 or the output.
 use mathlib.Core.Path.{sym, subst}
-use Prim.Native.Nat.{ℕ, ◌≤◌}
-use mathlib.Core.List.{List}
+use Prim.Native.Nat.{◌≤◌}
 use lib.ListN.{length}
 use lib.Seq.{length-take-le}
 use Rattle.model.specs.Bounds.{most_books}
 use Rattle.model.specs.Trials.{WordsKept}
-use Rattle.model.specs.Day.{books_of, day_free_words}
+use Rattle.model.specs.Day.{books_of}
 use Rattle.day.proofs.ResultLaws.{written-within, many_writes, long-writes, given_writes, few-free}
 use native.Mathlib.Omega.{arith}
 use Rattle.day.proofs.day.Goals as goal

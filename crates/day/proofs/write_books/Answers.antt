@@ -1,5 +1,5 @@
 -- `day::write_books` meets its contract. The invariant: what the books left put out makes the whole.
-use Prim.Native.Nat.{◌+◌, ◌-◌, ◌≤◌}
+use Prim.Native.Nat.{◌-◌, ◌≤◌}
 use mathlib.Core.Path.{refl, sym, subst}
 use lib.ListN.{length, drop, length-take, length-drop}
 use Rattle.model.specs.Bounds.{most_sheet}

@@ -1,5 +1,5 @@
 -- `scan::scan` meets its contract. The invariant: `best` is the best of the cells of the rows before `row` that pass.
-use Prim.Native.Nat.{◌+◌, ◌*◌, ◌-◌, ◌≤◌}
+use Prim.Native.Nat.{◌+◌, ◌*◌, ◌≤◌}
 use native.Mathlib.Omega.{arith}
 use lib.ListN.{get_or, length}
 use Rattle.model.specs.Values.{problem_of}

@@ -1,7 +1,5 @@
 -- `scan::scan_row` meets its contract. The invariant: `best` is the best of `first` and of the cells before column col that pass.
 use mathlib.Core.Path.{◌∙◌, ap}
-use mathlib.Core.Logic.{⊎_elim}
-use Prim.Native.Nat.{◌-◌}
 use native.Mathlib.Omega.{arith}
 use Rattle.model.specs.Values.{problem_of}
 use Rattle.table.specs.Table.{key_of}

@@ -1,7 +1,7 @@
 -- `search::run_loads` meets its contract. The invariant: the layer, the reached cells and the trials are those of the first k loads.
 use borrow.Author.Tests.{lt-ltb}
 use native.Mathlib.Omega.{arith}
-use Prim.Native.Nat.{ℕ, ◌-◌}
+use Prim.Native.Nat.{ℕ}
 use lib.ListN.{length-replicate}
 use Rattle.model.specs.Bounds.{most_rows}
 use Rattle.search.proofs.ModelLaws.{rows_one, grid_fits, load_fits}

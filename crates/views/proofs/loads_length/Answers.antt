@@ -1,7 +1,6 @@
 -- `views::loads_length` meets its contract. The invariant: the bytes of the loads passed are counted.
-use Prim.Native.Nat.{suc, ◌-◌}
+use Prim.Native.Nat.{suc}
 use mathlib.Core.Path.{sym, ap}
-use mathlib.Core.Logic.{⊎_elim}
 use lib.ListN.{length}
 use Rattle.views.proofs.MillLaws.{load_stands, length_runs, loads-none, length_more, loads_most}
 use borrow.Author.Rules.{rules}

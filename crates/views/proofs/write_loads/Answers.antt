@@ -1,5 +1,5 @@
 -- `views::write_loads` meets its contract. The invariant: the loads passed are written.
-use Prim.Native.Nat.{suc, ◌+◌, ◌-◌}
+use Prim.Native.Nat.{suc, ◌+◌}
 use mathlib.Core.Path.{refl, sym, ap, ◌∙◌}
 use lib.ListN.{length, get_or}
 use Rattle.hexadecimal.specs.Written.{written}
