@@ -4,7 +4,7 @@
 usage: tools/respell.py        once, at the top, after /opt/rattle/port/port.py
 
 A name of specs/ or of a law file of proofs/ that has a capital in its middle is written with '_', as 'readBook' to 'read_book'. A dash in a lemma's name stays
-where it joins two names of definitions, as in 'length-digits', and is '_' where it joins plain words, as in 'held_count'. Turned are the .antt files, the ghost
+where each part is a name that specs/ or the library has, as in 'length-concat', and is '_' where it joins plain words, as in 'held_four'. Turned are the .antt files, the ghost
 lines and clauses of the .rt files, and comments of both; names after a dot turn too, as they are fields. The proof files of functions (proofs/F/Proof.antt)
 keep the names of their goals. Names of src/, strings, inputs and outputs stay. Must-fail edits are brought over by hand.
 
