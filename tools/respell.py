@@ -1,7 +1,7 @@
 #!/usr/bin/env python3
 """Brings this repository's own definitions and lemmas to today's spelling: words in snake case, types and modules in camel case.
 
-usage: tools/respell.py        once, at the top, after /opt/rattle/port/port.py
+usage: tools/respell.py        once, at the top, after the port.py of the toolchain
 
 A name of specs/ or of a law file of proofs/ that has a capital in its middle is written with '_', as 'readBook' to 'read_book'. A dash in a lemma's name stays
 where each part is a name that specs/ or the library has, as in 'length-concat', and is '_' where it joins plain words, as in 'held_four'. Turned are the .antt files, the ghost
