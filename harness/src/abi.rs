@@ -231,21 +231,25 @@ pub fn fields(model: &Source, name: &str) -> Parsed<Vec<String>> {
     }
 }
 
-/// The refusals with their numbers, from `Refusal::number`.
+/// The refusals with their numbers, from the enum `Refusal`: a variant without a number has the one after the last.
 pub fn refusals(model: &Source) -> Parsed<Vec<(String, u64)>> {
-    let lines = model.block("    fn number(self) -> u64", "    }")?;
-    let arm = |line: &Line| {
-        let (name, number) = line.text.trim().strip_prefix("Refusal::")?.split_once(" => ")?;
-        let number = number.strip_suffix(",")?.parse().ok()?;
-        name.chars()
-            .all(|c| c.is_ascii_alphabetic())
-            .then(|| (name.to_string(), number))
-    };
-    let arms = lines
-        .iter()
-        .filter(|line| line.text.contains("=>") || line.text.contains("::"));
-    arms.map(|line| arm(line).ok_or_else(|| line.fault("no refusal with its number")))
-        .collect()
+    let lines = model.block("pub enum Refusal {", "}")?;
+    let mut found: Vec<(String, u64)> = Vec::new();
+    for line in lines.iter().filter(|line| !line.is_comment()) {
+        let next = found.last().map(|(_, last)| last + 1);
+        let variant = |line: &Line| {
+            let variant = line.text.trim().strip_suffix(',')?;
+            let (name, number) = match variant.split_once(" = ") {
+                Some((name, number)) => (name, number.parse().ok()?),
+                None => (variant, next?),
+            };
+            name.chars()
+                .all(|c| c.is_ascii_alphabetic())
+                .then(|| (name.to_string(), number))
+        };
+        found.push(variant(line).ok_or_else(|| line.fault("no refusal with its number"))?);
+    }
+    Ok(found)
 }
 
 /// The sizes that are large enough for every book and every day, and the most books of a day, computed from the constants of

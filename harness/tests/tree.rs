@@ -67,7 +67,11 @@ impl Tree {
         });
         let mut texts = others.map(|file| file.text.as_str());
         match function.of {
-            _ if !root => texts.any(|text| has_word(text, name)),
+            // A method of a type that the crate hands on is called from wherever the type goes.
+            Some(kind) if !root => self.sources.iter().filter(|file| file.path != of.path).any(|file| {
+                file.text.contains(&format!(".{name}(")) || has_word(&file.text, &format!("{kind}::{name}"))
+            }),
+            None if !root => texts.any(|text| has_word(text, name)),
             None => texts.any(|text| has_word(text, &format!("{}::{name}", of.krate))),
             Some(of) => {
                 texts.any(|text| has_word(text, &format!("{of}::{name}")) || text.contains(&format!(".{name}(")))

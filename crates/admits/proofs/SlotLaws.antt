@@ -88,8 +88,8 @@ module _ (s : Slot) {t : ℕ} (h : SlotSound t s) (a b : ℕ) where
 abbrev pub test_at : Grid → ℕ → List ℕ → ℕ → ℕ → ℕ → Bool
 test_at v count limits t a b =
     leb
-    (square (a % get_or v.tops t 0 * get_or v.steps t 0)
-    + square (least_abs (get_or v.steps t 0) (count * (get_or v.steps t 0 - 1)) (sub_ℕ (b % get_or v.widths t 0) (get_or v.depths t 0))))
+    (square (a % (entry_at v t).top * (entry_at v t).step)
+    + square (least_abs (entry_at v t).step (count * ((entry_at v t).step - 1)) (sub_ℕ (b % (entry_at v t).width) (entry_at v t).depth)))
     (square (get_or limits t 0))
 
 module _ {v : Grid} {count : ℕ} {limits : List ℕ} (h : SlotsHeld v count limits) where
@@ -107,13 +107,13 @@ module _ {v : Grid} {count : ℕ} {limits : List ℕ} (h : SlotsHeld v count lim
     numbers : SlotIs here (entry_at v t)
     numbers = h.laid.is.each t long
 
-    pub top-some : 0 < get_or v.tops t 0
+    pub top-some : 0 < (entry_at v t).top
     top-some = omega (arith, numbers.top_is)
 
-    pub width_some : 0 < get_or v.widths t 0
+    pub width_some : 0 < (entry_at v t).width
     width_some = omega (arith, numbers.width_is)
 
-    pub pair_held : (a b : ℕ) → PairFits (a % get_or v.tops t 0) (b % get_or v.widths t 0) (get_or v.depths t 0) (get_or v.steps t 0) count (get_or limits t 0)
+    pub pair_held : (a b : ℕ) → PairFits (a % (entry_at v t).top) (b % (entry_at v t).width) (entry_at v t).depth (entry_at v t).step count (get_or limits t 0)
     pair_held a b =
         rw (numbers.step_is, numbers.top_is, numbers.width_is, numbers.depth_is, h.limits_are t long, ← (h.loads_are t long))
         (pair_fits here (h.laid.sound t long) a b)
@@ -125,15 +125,15 @@ module _ {v : Grid} {count : ℕ} {limits : List ℕ} (h : SlotsHeld v count lim
 
     -- slot t, and then the slots after it
     from_cons : (a b : ℕ) → admits_from t a b
-        ≡ admits here (pair_at here (a % (grid_top here + 1)) (b % width_of here)) && admits_from (t + 1) (a / get_or v.tops t 0) (b / get_or v.widths t 0)
+        ≡ admits here (pair_at here (a % (grid_top here + 1)) (b % width_of here)) && admits_from (t + 1) (a / (entry_at v t).top) (b / (entry_at v t).width)
     from_cons a b = rw (drop-cons h.laid.slots t no_slot long, add-one t, numbers.top_is, numbers.width_is)
 
     module _ {r : Bool} (a b : ℕ) (e : r ≡ test_at v count limits t a b) where
       pub from_stop : r ≡ false → false ≡ admits_from t a b
-      from_stop z = sym (from_cons a b ∙ ap (λ t'. t' && admits_from (t + 1) (a / get_or v.tops t 0) (b / get_or v.widths t 0)) (sym (pair_is a b) ∙ sym e ∙ z))
+      from_stop z = sym (from_cons a b ∙ ap (λ t'. t' && admits_from (t + 1) (a / (entry_at v t).top) (b / (entry_at v t).width)) (sym (pair_is a b) ∙ sym e ∙ z))
 
-      pub from_go : r ≡ true → admits_from t a b ≡ admits_from (t + 1) (a / get_or v.tops t 0) (b / get_or v.widths t 0)
-      from_go z = from_cons a b ∙ ap (λ t'. t' && admits_from (t + 1) (a / get_or v.tops t 0) (b / get_or v.widths t 0)) (sym (pair_is a b) ∙ sym e ∙ z)
+      pub from_go : r ≡ true → admits_from t a b ≡ admits_from (t + 1) (a / (entry_at v t).top) (b / (entry_at v t).width)
+      from_go z = from_cons a b ∙ ap (λ t'. t' && admits_from (t + 1) (a / (entry_at v t).top) (b / (entry_at v t).width)) (sym (pair_is a b) ∙ sym e ∙ z)
 
   pub from_end : (t a b : ℕ) → v.slots ≤ t → t ≤ v.slots → true ≡ admits_from t a b
   from_end t a b k l = let e : t ≡ length h.laid.slots = omega (arith, h.laid.is.slots_are) in rw (e, drop-length)

@@ -9,7 +9,7 @@ ghost use Rattle.model.specs.Cells.{admits_all};
 ghost use Rattle.model.specs.Index.{grid_from};
 ghost use Rattle.admits.specs.Admits.{most_reach, PairFits, SlotsHeld};
 
-use grid::Grid;
+use grid::{Grid, SlotGrid};
 use model::Book;
 
 // The least |q| of bL ≤ q ≤ bL + e, where `raised` is b + depth, `step` is L and `spread` is e.
@@ -20,11 +20,7 @@ fn nearest(raised: u64, depth: u64, step: u64, spread: u64) -> u64
     if depth <= raised {
         return (raised - depth) * step;
     }
-    let size = (depth - raised) * step;
-    if size < spread {
-        return 0;
-    }
-    size - spread
+    ((depth - raised) * step).saturating_sub(spread)
 }
 
 // Whether a slot is admitted at the grid pair (a, b), where `raised` is b + `depth`, and `count` is N.
@@ -51,26 +47,26 @@ pub fn admits_cell(
     let slots = grid.slots;
     let mut a = row;
     let mut b = col;
-    let mut t: usize = 0;
-    while t < slots {
-        let top = grid.tops[t];
-        let width = grid.widths[t];
-        let depth = grid.depths[t] as u64;
-        let step = grid.steps[t];
+    for t in 0..slots {
+        let SlotGrid {
+            step,
+            top,
+            width,
+            depth,
+        } = grid.sizes[t];
         let limit = limits[t];
         if !admits_pair(
             (a % top) as u64,
             (b % width) as u64,
-            depth,
+            depth as u64,
             step,
             count,
             limit,
         ) {
             return false;
         }
-        a = a / top;
-        b = b / width;
-        t += 1;
+        a /= top;
+        b /= width;
     }
     true
 }

@@ -1,30 +1,30 @@
 -- Reading the load lines one after the other: what the lines that are left give decides what all give.
 -- Assumes nothing.
-use mathlib.Core.Path.{◌≡◌, refl, sym, ap, ap₂, ◌∙◌}
+use mathlib.Core.Path.{◌≡◌, refl, sym, ap, ap₂, ◌∙◌, subst}
 use mathlib.Core.Bool.{true, not}
 use mathlib.Core.Logic.{◌⊎◌, inl, inr}
 use mathlib.Core.List.{List, [], ◌∷◌, ◌++◌, map, append_assoc, append-nil}
 use Prim.Native.Nat.{ℕ, suc, ◌+◌, ◌-◌, ◌*◌, ◌<◌, ◌≤◌}
 use native.Mathlib.Nat.{sub-zero}
 use native.Mathlib.Omega.{arith}
-use lib.ListN.{length, get_or, take, drop, set, replicate, length-append, get_or-append, get_or-eq_default}
+use lib.ListN.{length, get_or, take, drop, set, replicate, length-append, length-drop, get_or-append, get_or-eq_default}
 use lib.Seq.{drop-drop, get_or_at}
 use borrow.Author.Tests.{lt-ltb, le-ltb}
+use Rattle.std.specs.Prelude.{Ok, Err, Result as Outcome}
 use Rattle.model.specs.declared.Book.{Book}
-use Rattle.model.specs.declared.Finding.TheVariants.{Passed, Refused}
+use Rattle.model.specs.declared.Refused.{Refused}
 use Rattle.model.specs.declared.Load.{Load}
 use Rattle.model.specs.declared.Refusal.{Refusal}
 use Rattle.model.specs.declared.Refusal.TheVariants.{Unterminated, TrailingBytes}
 use Rattle.model.specs.Lists.{upto}
 use Rattle.model.specs.Bounds.{most_loads}
 use Rattle.model.specs.Frames.{field, line_length, line_of, after_line}
-use Rattle.model.specs.Refusals.{Result, refused, done, first, checked, and_then}
-use Rattle.model.specs.Book.{Settings, Problem, header_rules, read_book, slot_count, load_count, fineness_in, ratio_digits, ratio_in, budget_in, limits_in, problem, settings, line_rule, load_rules, end_rules, read_loads}
-use Rattle.model.specs.Answers.{answer_of, bytes_only}
-use Rattle.model.specs.Values.{load_value, book_value, fresh_book, reading_of}
+use Rattle.model.specs.Refusals.{Finding, Result, refused, done, first, checked, and_then}
+use Rattle.model.specs.Book.{Settings, header_rules, read_book, slot_count, load_count, fineness_in, ratio_digits, ratio_in, budget_in, limits_in, problem, settings, line_rule, load_rules, end_rules, read_loads}
+use Rattle.model.specs.Values.{load_value, book_value, reading_of}
 use Rattle.model.proofs.UptoLaws.{length-upto, set-upto}
 use Rattle.model.proofs.IntegerLaws.{split}
-use Rattle.model.proofs.RefusalLaws.{first_here, first_next, number-some}
+use Rattle.model.proofs.RefusalLaws.{first_here, first_next}
 use Rattle.hexadecimal.proofs.FieldLaws.{rest_is}
 use Rattle.book.specs.Lines.{loads_value, loads_reading, rest_read}
 
@@ -42,11 +42,11 @@ module _ (t ratio m number : ℕ) (bytes : List ℕ) where
   line-found : line_length bytes < length bytes → first (line_rule bytes ∷ load_rules t ratio (line_of bytes)) ≡ first (load_rules t ratio (line_of bytes))
   line-found h = first_next Unterminated (load_rules t ratio (line_of bytes)) _ (ap not (lt-ltb _ _ h))
 
-  line_refused : (r : Refusal) → line_length bytes < length bytes → first (load_rules t ratio (line_of bytes)) ≡ Refused r → read_loads t ratio (suc m) number bytes ≡ refused r number
+  line_refused : (r : Refusal) → line_length bytes < length bytes → first (load_rules t ratio (line_of bytes)) ≡ Err r → read_loads t ratio (suc m) number bytes ≡ refused r number
   unfolding read_loads
   line_refused r h e = ap (λ f. checked number f rest) (line-found h ∙ e)
 
-  line_read : line_length bytes < length bytes → first (load_rules t ratio (line_of bytes)) ≡ Passed → read_loads t ratio (suc m) number bytes ≡ rest
+  line_read : line_length bytes < length bytes → first (load_rules t ratio (line_of bytes)) ≡ Ok tt → read_loads t ratio (suc m) number bytes ≡ rest
   unfolding read_loads
   line_read h e = ap (λ f. checked number f rest) (line-found h ∙ e)
 
@@ -100,12 +100,12 @@ module _ (t ratio count : ℕ) (s : List ℕ) (at k : ℕ) (loads : List Load) (
   pub read_unterminated : k < count → length (drop at s) ≤ line_length (drop at s) → read_loads t ratio count 2 s ≡ refused Unterminated (k + 2)
   read_unterminated l b = next l ∙ ap (joined h.before) (line_unterminated t ratio (count - (k + 1)) (k + 2) (drop at s) b)
 
-  pub read_refused : (r : Refusal) → k < count → line_length (drop at s) < length (drop at s) → first (load_rules t ratio (line_of (drop at s))) ≡ Refused r
+  pub read_refused : (r : Refusal) → k < count → line_length (drop at s) < length (drop at s) → first (load_rules t ratio (line_of (drop at s))) ≡ Err r
       → read_loads t ratio count 2 s ≡ refused r (k + 2)
   read_refused r l b e = next l ∙ ap (joined h.before) (line_refused t ratio (count - (k + 1)) (k + 2) (drop at s) r b e)
 
   pub read_more : (end : ℕ) (load : Load) → k < count → count ≤ most_loads → line_length (drop at s) < length (drop at s)
-      → first (load_rules t ratio (line_of (drop at s))) ≡ Passed → load ≡ load_value (settings t (line_of (drop at s)))
+      → first (load_rules t ratio (line_of (drop at s))) ≡ Ok tt → load ≡ load_value (settings t (line_of (drop at s)))
       → drop end s ≡ after_line (drop at s) → Read t ratio count s end (k + 1) (set loads k load)
   read_more end load l few b e v a =
       record {
@@ -157,53 +157,73 @@ line-is s at n e = let q : at + n - at ≡ line_length (drop at s) = omega arith
 pub after_is : (s : List ℕ) (at n : ℕ) → n ≡ line_length (drop at s) → drop (at + n + 1) s ≡ after_line (drop at s)
 after_is s at n e = let q : at + n + 1 ≡ at + suc (line_length (drop at s)) = omega arith in rw (q, drop-drop)
 
+-- the line of n bytes that starts at a place, once it is known to end, and what its rules say
+pub record LineAt (t ratio : ℕ) (s : List ℕ) (at n : ℕ) (f : Finding) : Type 0 where
+  pub ends : line_length (drop at s) < length (drop at s)
+  pub is : take (at + n - at) (drop at s) ≡ line_of (drop at s)
+  pub says : f ≡ first (load_rules t ratio (line_of (drop at s)))
+  pub after : drop (at + n + 1) s ≡ after_line (drop at s)
+
+pub line_at : (t ratio : ℕ) (s : List ℕ) (at n : ℕ) (f : Finding) → at ≤ length s → n ≡ line_length (take (length s - at) (drop at s)) → n < length s - at
+    → f ≡ first (load_rules t ratio (take (at + n - at) (drop at s))) → LineAt t ratio s at n f
+line_at t ratio s at n f h e l q =
+    let en : n ≡ line_length (drop at s) = length-is s at n h e in
+    record {
+      ends = rw length-drop (omega arith);
+      is = line-is s at n en;
+      says = q ∙ ap (λ x. first (load_rules t ratio x)) (line-is s at n en);
+      after = after_is s at n en;
+    }
+
 -- ---- the book, from the load lines
 
-module _ (line : List ℕ) (read : Result (List Settings)) where
-  abbrev found : Result Problem
-  found = and_then read (λ loads. done (problem line loads))
+IsRead : {A : Type 0} → Outcome A Refused → Type 0
+IsRead (Ok x) = Unit {0}
+IsRead (Err x) = ⊥
 
-  pub book-refused : ((loads_reading read).answer.number ≡ 0 → ⊥) → record { answer = (loads_reading read).answer; book = fresh_book } ≡ reading_of found
-  book-refused = go read
-    where
-      go : (x : Result (List Settings)) → ((loads_reading x).answer.number ≡ 0 → ⊥)
-          → record { answer = (loads_reading x).answer; book = fresh_book } ≡ reading_of (and_then x (λ loads. done (problem line loads)))
-      go (refused r number) h = refl
-      go (done loads) h = absurd (h refl)
+-- the header's numbers and limits, with the loads
+abbrev pub book_with : List ℕ → List Load → Book
+book_with line loads =
+    record {
+      slots = slot_count line;
+      count = load_count line;
+      fineness = fineness_in line;
+      ratio = ratio_in line;
+      budget = budget_in line;
+      limits = map (λ s. get_or (limits_in line) s 0) (upto 4);
+      loads = loads;
+    }
 
-  -- the header's numbers and limits, with the loads
-  abbrev pub book_with : List Load → Book
-  book_with loads =
-      record {
-        slots = slot_count line;
-        count = load_count line;
-        fineness = fineness_in line;
-        ratio = ratio_in line;
-        budget = budget_in line;
-        limits = map (λ s. get_or (limits_in line) s 0) (upto 4);
-        loads = loads;
-      }
+pub book_done : (line : List ℕ) (read : Result (List Settings)) (loads : List Load)
+    → ((x : List Settings) → read ≡ done x → length x ≡ load_count line) → Path (Outcome (List Load) Refused) (Ok loads) (loads_reading read)
+    → Path (Outcome Book Refused) (Ok (book_with line loads)) (reading_of (and_then read (λ x. done (problem line x))))
+unfolding book_value IsRead
+book_done line read loads many = go read refl
+  where
+    same_loads : (x y : List Load) → Path (Outcome (List Load) Refused) (Ok x) (Ok y) → x ≡ y
+    same_loads x y e = cc
 
-  pub book-done : ((loads : List Settings) → read ≡ done loads → length loads ≡ load_count line) → (loads_reading read).answer.number ≡ 0
-      → record { answer = (loads_reading read).answer; book = book_with (loads_reading read).loads } ≡ reading_of found
-  unfolding book_value
-  book-done many = go read refl
-    where
-      go : (x : Result (List Settings)) → read ≡ x → (loads_reading x).answer.number ≡ 0
-          → record { answer = (loads_reading x).answer; book = book_with (loads_reading x).loads } ≡ reading_of (and_then x (λ loads. done (problem line loads)))
-      go (refused r number) e h = absurd (number-some r h)
-      go (done loads) e h = λ i. record {
-        answer = answer_of (done (bytes_only []));
-        book = record {
-          slots = sym (length-upto (λ s. field line (16 + ratio_digits line + 4 * s) 4) (slot_count line)) i;
-          count = sym (many loads e) i;
-          fineness = fineness_in line;
-          ratio = ratio_in line;
-          budget = budget_in line;
-          limits = map (λ s. get_or (limits_in line) s 0) (upto 4);
-          loads = loads_value loads;
-        };
-      }
+    go : (x : Result (List Settings)) → read ≡ x → Path (Outcome (List Load) Refused) (Ok loads) (loads_reading x)
+        → Path (Outcome Book Refused) (Ok (book_with line loads)) (reading_of (and_then x (λ y. done (problem line y))))
+    go (refused r number) e h = absurd (subst IsRead h tt)
+    go (done x) e h = λ i. Ok (record {
+      slots = sym (length-upto (λ s. field line (16 + ratio_digits line + 4 * s) 4) (slot_count line)) i;
+      count = sym (many x e) i;
+      fineness = fineness_in line;
+      ratio = ratio_in line;
+      budget = budget_in line;
+      limits = map (λ s. get_or (limits_in line) s 0) (upto 4);
+      loads = same_loads loads (loads_value x) h i;
+    })
+
+pub book_failed : (line : List ℕ) (read : Result (List Settings)) (v : Refused) → Path (Outcome (List Load) Refused) (Err v) (loads_reading read)
+    → Path (Outcome Book Refused) (Err v) (reading_of (and_then read (λ x. done (problem line x))))
+unfolding IsRead
+book_failed line (refused r number) v h = same_refusal v (record { refusal = r; line = number }) h
+  where
+    same_refusal : (x y : Refused) → Path (Outcome (List Load) Refused) (Err x) (Err y) → Path (Outcome Book Refused) (Err x) (Err y)
+    same_refusal x y e = cc
+book_failed line (done loads) v h = absurd (subst IsRead (sym h) tt)
 
 -- ---- the whole book
 
@@ -215,10 +235,10 @@ module _ (s : List ℕ) where
   header_found : line_length s < length s → first (line_rule s ∷ header_rules (line_of s)) ≡ first (header_rules (line_of s))
   header_found h = first_next Unterminated (header_rules (line_of s)) _ (ap not (lt-ltb _ _ h))
 
-  pub header_refused : (r : Refusal) → line_length s < length s → first (header_rules (line_of s)) ≡ Refused r → read_book s ≡ refused r 1
+  pub header_refused : (r : Refusal) → line_length s < length s → first (header_rules (line_of s)) ≡ Err r → read_book s ≡ refused r 1
   unfolding read_book
   header_refused r h e = ap (λ f. checked 1 f (rest_read (line_of s) (after_line s))) (header_found h ∙ e)
 
-  pub header_passed : line_length s < length s → first (header_rules (line_of s)) ≡ Passed → read_book s ≡ rest_read (line_of s) (after_line s)
+  pub header_passed : line_length s < length s → first (header_rules (line_of s)) ≡ Ok tt → read_book s ≡ rest_read (line_of s) (after_line s)
   unfolding read_book
   header_passed h e = ap (λ f. checked 1 f (rest_read (line_of s) (after_line s))) (header_found h ∙ e)

@@ -6,19 +6,19 @@ use mathlib.Core.Bool.{Bool, true, false, not, false≢true}
 use mathlib.Core.Logic.{◌⊎◌, inl, inr}
 use mathlib.Core.List.{List, [], ◌∷◌}
 use mathlib.Core.Option.{Option, none, some}
+use Rattle.std.specs.Prelude.{None, Some}
 use native.Mathlib.Nat.{zero-add, add-zero, le_of_suc-le-suc}
 use native.Mathlib.Omega.{arith}
 use lib.Dec.{eqb}
 use lib.ListN.{length, get_or, set, length-set}
 use Rattle.model.specs.declared.Book.{Book}
-use Rattle.model.specs.declared.Finding.{Finding}
-use Rattle.model.specs.declared.Finding.TheVariants.{Passed, Refused}
+use Rattle.std.specs.Prelude.{Ok, Err}
 use Rattle.model.specs.declared.Load.{Load}
 use Rattle.model.specs.declared.Refusal.TheVariants.{ForeignSheet}
 use Rattle.model.specs.Lists.{Every, same_lists}
 use Rattle.model.specs.Bounds.{most_loads}
 use Rattle.model.specs.Frames.{field}
-use Rattle.model.specs.Refusals.{Result, refused, done, first, checked, and_then}
+use Rattle.model.specs.Refusals.{Finding, Result, refused, done, first, checked, and_then}
 use Rattle.model.specs.Book.{Setting, Settings, Problem}
 use Rattle.model.specs.Choice.{Choice, setting_numbered, least_of}
 use Rattle.model.specs.Sheet.{sheet_bytes, sheet_length}
@@ -35,8 +35,8 @@ use Rattle.model.proofs.SheetLaws.{sheet-length, choice-is, choice_back}
 use Rattle.model.proofs.HeldLaws.{held-valid, held-count, held-few, held_at, value_least, value_count}
 use Rattle.sums.proofs.PickLaws.{picked-choice}
 use Rattle.sheet.proofs.WriteLaws.{number_at, choice-length}
-use Rattle.chosen.specs.declared.SheetPicks.{SheetPicks}
-use Rattle.chosen.specs.Chosen.{PicksOn, Belongs, ChoiceOn}
+use Rattle.chosen.specs.declared.OnSheet.{OnSheet}
+use Rattle.chosen.specs.Chosen.{Numbered, PicksOn, Belongs, Stated, ChoiceOn}
 
 -- ---- the numbers on a sheet
 
@@ -105,37 +105,31 @@ module _ (book : Book) (h : Held book) (sheet picks : List ℕ) where
 
   -- a number that is not one of its load's
   read_lost : (k c : ℕ) → k < book.count → c ≡ field sheet (18 + 2 * k) 2 → Outside (get_or book_of.loads k []) c
-      → PicksOn sheet book_of false picks
+      → PicksOn sheet book_of None
   read_lost k c l e m =
-      record {
-        picked = λ q. absurd (false≢true q);
-        found = λ q. absurd (false≢true q);
-        lost = λ q.
-            choice-none sheet 0 book_of.loads (held-valid book h).loads.labels k (omega (arith, held-count book h))
-            (subst (Outside (get_or book_of.loads k [])) (e ∙ ap (λ i. field sheet (18 + 2 * i) 2) (sym (zero-add k))) m);
-      }
+      choice-none sheet 0 book_of.loads (held-valid book h).loads.labels k (omega (arith, held-count book h))
+      (subst (Outside (get_or book_of.loads k [])) (e ∙ ap (λ i. field sheet (18 + 2 * i) 2) (sym (zero-add k))) m)
 
   pub read_below : (k : ℕ) (d : Load) (c : ℕ) → k < book.count → c ≡ field sheet (18 + 2 * k) 2 → c < (get_or book.loads k d).least
-      → PicksOn sheet book_of false picks
+      → PicksOn sheet book_of None
   read_below k d c l e m = read_lost k c l e (inl (omega (arith, least_at_lem k d l)))
 
   pub read_past : (k : ℕ) (d : Load) (c : ℕ) → k < book.count → c ≡ field sheet (18 + 2 * k) 2
-      → (get_or book.loads k d).least + (get_or book.loads k d).settings ≤ c → PicksOn sheet book_of false picks
+      → (get_or book.loads k d).least + (get_or book.loads k d).settings ≤ c → PicksOn sheet book_of None
   read_past k d c l e m = read_lost k c l e (inr (omega (arith, least_at_lem k d l, settings_at k d l)))
 
   -- each is one of its load's
-  pub read_found : (k : ℕ) → k ≡ book.count → ReadUpto sheet book_of k picks → PicksOn sheet book_of true picks
+  pub read_found : (k : ℕ) → k ≡ book.count → ReadUpto sheet book_of k picks → PicksOn sheet book_of (Some picks)
   read_found k e r =
       record {
-        picked = λ q. picked;
-        found = λ q.
+        picked = picked;
+        found =
             choice_back sheet 0 book_of.loads (choice_of book_of picks) (picked-choice book_of picks (held-valid book h) picked) (held-valid book h).loads.labels
             (λ j l.
             let i : j < length book_of.loads = omega (arith, choice-length book_of picks (held-valid book h) picked) in
             ap (λ m. field sheet (18 + 2 * m) 2) (zero-add j)
             ∙ sym (r.same j (omega (arith, held-count book h)))
             ∙ sym (number_at book_of picks (held-valid book h) picked j i));
-        lost = λ q. absurd (false≢true (sym q));
       }
     where
       picked : Picked book_of picks
@@ -156,7 +150,7 @@ module _ (sheet : List ℕ) (b : Problem) where
 
     -- other bytes than the choice and the trials on the sheet give
     other_foreign : (sheet ≡ sheet_bytes b c (trials_on sheet) → ⊥) → sheet_choice sheet b ≡ refused ForeignSheet 0
-    other_foreign h = choice_at (Refused ForeignSheet) (first_here ForeignSheet [] _ (ap not (other (same_lists eqb sheet (sheet_bytes b c (trials_on sheet))) refl)))
+    other_foreign h = choice_at (Err ForeignSheet) (first_here ForeignSheet [] _ (ap not (other (same_lists eqb sheet (sheet_bytes b c (trials_on sheet))) refl)))
       where
         other : (t : Bool) → same_lists eqb sheet (sheet_bytes b c (trials_on sheet)) ≡ t → same_lists eqb sheet (sheet_bytes b c (trials_on sheet)) ≡ false
         other true q = absurd (h (same_eq sheet (sheet_bytes b c (trials_on sheet)) q))
@@ -164,7 +158,7 @@ module _ (sheet : List ℕ) (b : Problem) where
 
     -- the same bytes
     same_belongs : sheet ≡ sheet_bytes b c (trials_on sheet) → sheet_choice sheet b ≡ done c
-    same_belongs h = choice_at Passed (first_last ForeignSheet _ (ap not (ap (same_lists eqb sheet) (sym h) ∙ same_refl sheet)))
+    same_belongs h = choice_at (Ok tt) (first_last ForeignSheet _ (ap not (ap (same_lists eqb sheet) (sym h) ∙ same_refl sheet)))
 
   -- a sheet of another length
   pub length-foreign : (length sheet ≡ sheet_length b → ⊥) → sheet_choice sheet b ≡ refused ForeignSheet 0
@@ -175,34 +169,27 @@ module _ (sheet : List ℕ) (b : Problem) where
       go (some c) e =
           other_foreign c e (λ q. h (ap length q ∙ sheet-length b c (trials_on sheet) (chosen_length b.loads c (choice-is sheet 0 b.loads c e))))
 
-  -- what the reader finds, where the sheet does not belong to the book
-  pub foreign_on : (v : SheetPicks) → v.belongs ≡ false → sheet_choice sheet b ≡ refused ForeignSheet 0 → ChoiceOn sheet b v
-  foreign_on v f e =
-      record {
-        picked = λ q. absurd (false≢true (sym f ∙ q));
-        found = λ q. absurd (false≢true (sym f ∙ q));
-        stated = λ q. absurd (false≢true (sym f ∙ q));
-        foreign = λ q. e;
-      }
+  -- the bytes are those that the numbers and the trials on it give, or others
+  module _ (picks : List ℕ) (trials : ℕ) (is : Bool) (on : Numbered sheet b picks) (t : trials ≡ trials_on sheet)
+      (h : Belongs sheet (sheet_bytes b (choice_of b picks) trials) is) where
+    pub compared_same : is ≡ true → ChoiceOn sheet b (Some (record { picks = picks; trials = trials }))
+    compared_same q =
+        record {
+          picked = on.picked;
+          found = same_belongs (choice_of b picks) on.found (h.same q ∙ ap (sheet_bytes b (choice_of b picks)) t);
+          trials = t;
+        }
 
-  -- and where its bytes were compared with those that the numbers and the trials on it give
-  pub compared_on : (picks : List ℕ) (trials : ℕ) (is : Bool) → PicksOn sheet b true picks → trials ≡ trials_on sheet
-      → Belongs sheet (sheet_bytes b (choice_of b picks) trials) is → ChoiceOn sheet b (record { belongs = is; picks = picks; trials = trials })
-  compared_on picks trials is on t h =
-      record {
-        picked = λ q. on.picked refl;
-        found = λ q. same_belongs (choice_of b picks) (on.found refl) (h.same q ∙ ap (sheet_bytes b (choice_of b picks)) t);
-        stated = λ q. t;
-        foreign = λ q.
-            other_foreign (choice_of b picks) (on.found refl)
-            (λ e. false≢true (sym q ∙ h.known (e ∙ ap (sheet_bytes b (choice_of b picks)) (sym t))));
-      }
+    pub compared_other : is ≡ false → ChoiceOn sheet b None
+    compared_other q =
+        other_foreign (choice_of b picks) on.found
+        (λ e. false≢true (sym q ∙ h.known (e ∙ ap (sheet_bytes b (choice_of b picks)) (sym t))))
 
 -- ---- what is made of the choice on a sheet
 
-module _ (sheet : List ℕ) (b : Problem) (v : SheetPicks) (on : ChoiceOn sheet b v) {A : Type 0} (f : Choice → Result A) where
-  pub then_foreign : v.belongs ≡ false → refused ForeignSheet 0 ≡ and_then (sheet_choice sheet b) f
-  then_foreign q = sym (ap (λ x. and_then x f) (on.foreign q))
+module _ (sheet : List ℕ) (b : Problem) {A : Type 0} (f : Choice → Result A) where
+  pub then_foreign : ChoiceOn sheet b None → refused ForeignSheet 0 ≡ and_then (sheet_choice sheet b) f
+  then_foreign foreign = sym (ap (λ x. and_then x f) foreign)
 
-  pub then_read : v.belongs ≡ true → f (choice_of b v.picks) ≡ and_then (sheet_choice sheet b) f
-  then_read q = sym (ap (λ x. and_then x f) (on.found q))
+  pub then_read : (on : OnSheet) → Stated sheet b on → f (choice_of b on.picks) ≡ and_then (sheet_choice sheet b) f
+  then_read on is = sym (ap (λ x. and_then x f) is.found)

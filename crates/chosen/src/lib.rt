@@ -1,48 +1,39 @@
 // The choice on a sheet: a sheet is read against a book, to the choice and the trials of one that belongs to it.
 #![tactic(auto)]
 
-ghost use Rattle.std.specs.Prelude.{◌≡◌, false, length};
+ghost use Rattle.std.specs.Prelude.{◌≡◌, length};
 ghost use Rattle.model.specs.Sheet.{sheet_bytes, sheet_length};
 ghost use Rattle.model.specs.Values.{Held, Picked, choice_of, problem_of};
 ghost use Rattle.chosen.specs.Chosen.{PicksOn, Belongs, ChoiceOn};
 
 use model::Book;
 
-// What the first line of a sheet says of the choice; `ok` is false where a number is not one of its load's.
+// What the first line of a sheet that belongs to a book says: the number of each load's setting, and the trials.
 #[derive(Clone, Copy)]
-pub struct Picks {
-    pub ok: bool,
-    pub picks: [usize; Book::LOADS],
-}
-
-// What a sheet says of the choice and the trials, where it belongs to the book.
-#[derive(Clone, Copy)]
-pub struct SheetPicks {
-    pub belongs: bool,
+pub struct OnSheet {
     pub picks: [usize; Book::LOADS],
     pub trials: u64,
 }
 
-fn picks_on(sheet: &[u8], book: Book) -> Picks
+// The loads' numbers on the first line of a sheet, where each is one of its load's.
+fn picks_on(sheet: &[u8], book: Book) -> Option<[usize; Book::LOADS]>
     requires held { Held book }
     requires sheet_len { length sheet.now ≡ sheet_length (problem_of book) }
-    ensures { PicksOn sheet.now (problem_of book) result.ok result.picks }
+    ensures { PicksOn sheet.now (problem_of book) result }
 {
     let mut picks = [0usize; Book::LOADS];
-    let mut k: usize = 0;
-    while k < book.count {
+    for k in 0..book.count {
         let load = book.loads[k];
         let c = hexadecimal::number(sheet, 18 + 2 * k, 2) as usize;
         if c < load.least {
-            return Picks { ok: false, picks };
+            return None;
         }
         if load.least + load.settings <= c {
-            return Picks { ok: false, picks };
+            return None;
         }
         picks[k] = c;
-        k += 1;
     }
-    Picks { ok: true, picks }
+    Some(picks)
 }
 
 // The sheet is the one that the choice whose numbers are in `picks` and the trials give.
@@ -57,35 +48,19 @@ fn belongs(sheet: &[u8], book: Book, picks: [usize; Book::LOADS], trials: u64) -
     check::same(sheet, &due[..n])
 }
 
-// A sheet that does not belong to the book.
-fn foreign() -> SheetPicks
-    ensures { result.belongs ≡ false }
-{
-    SheetPicks {
-        belongs: false,
-        picks: [0usize; Book::LOADS],
-        trials: 0,
-    }
-}
-
 // A sheet, read to a choice: it must be the one that the choice and the trials on its own first line give.
-pub fn choice_on(book: Book, sheet: &[u8]) -> SheetPicks
+pub fn choice_on(book: Book, sheet: &[u8]) -> Option<OnSheet>
     requires { Held book }
     ensures { ChoiceOn sheet.now (problem_of book) result }
 {
     if sheet.len() != sheet::sheet_length(book) {
-        return foreign();
+        return None;
     }
-    let on = picks_on(sheet, book);
-    if !on.ok {
-        return foreign();
-    }
-    let picks = on.picks;
+    let picks = picks_on(sheet, book)?;
     let trials = hexadecimal::number(sheet, 10, 8);
-    let belongs = belongs(sheet, book, picks, trials);
-    SheetPicks {
-        belongs,
-        picks,
-        trials,
+    if belongs(sheet, book, picks, trials) {
+        Some(OnSheet { picks, trials })
+    } else {
+        None
     }
 }

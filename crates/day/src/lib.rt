@@ -17,17 +17,15 @@ fn book_end(books: &[u8], from: usize) -> usize
     requires { from ≤ length books.now }
     ensures { result ≡ from + book_length true (drop from books.now) }
 {
-    let mut at = from;
     let mut starts = true;
-    while at < books.len() {
+    for at in from..books.len() {
         let ends = books[at] == 10;
         if starts && ends {
             return at;
         }
         starts = ends;
-        at += 1;
     }
-    at
+    books.len()
 }
 
 // How many books there are.
@@ -36,6 +34,7 @@ fn book_count(books: &[u8]) -> usize
 {
     let mut count: usize = 0;
     let mut from: usize = 0;
+    // No `for`: the place goes on by a book's length, and one turn comes at the end of the input too.
     while from <= books.len() {
         from = book_end(books, from) + 1;
         count += 1;
@@ -63,6 +62,7 @@ fn write_books(books: &[u8], work: &mut [u64], out: &mut [u8]) -> usize
 {
     let mut at: usize = 0;
     let mut from: usize = 0;
+    // No `for`: as in `book_count`.
     while from <= books.len() {
         let end = book_end(books, from);
         at += write_book(&books[from..end], work, &mut out[at..]);

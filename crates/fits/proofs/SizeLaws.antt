@@ -8,7 +8,7 @@ use native.Mathlib.Omega.{arith}
 use lib.Dec.{ltb}
 use lib.ListN.{drop}
 use borrow.Author.Tests.{ltb-false, lt-ltb, le-ltb}
-use Rattle.model.specs.declared.Finding.TheVariants.{Passed, Refused}
+use Rattle.std.specs.Prelude.{Ok, Err}
 use Rattle.model.specs.declared.Refusal.TheVariants.{TooManyCells, WorkTooSmall, BufferTooSmall}
 use Rattle.model.specs.Refusals.{first}
 use Rattle.model.specs.Book.{Problem}
@@ -21,7 +21,7 @@ use Rattle.model.proofs.RefusalLaws.{first_passed, first_here, first_next, first
 use Rattle.grid.specs.Geometry.{Capped}
 
 module _ (words room : ℕ) (b : Problem) where
-  pub size_many : most_cells < cells b → first (size_rules b words room) ≡ Refused TooManyCells
+  pub size_many : most_cells < cells b → first (size_rules b words room) ≡ Err TooManyCells
   unfolding size_rules
   size_many h = first_here TooManyCells _ (ltb most_cells (cells b)) (lt-ltb _ _ h)
 
@@ -29,7 +29,7 @@ module _ (words room : ℕ) (b : Problem) where
   unfolding size_rules
   past-cells h = first_next TooManyCells _ (ltb most_cells (cells b)) (le-ltb _ _ h)
 
-  pub size_small : cells b ≤ most_cells → words < needed_words b → first (size_rules b words room) ≡ Refused WorkTooSmall
+  pub size_small : cells b ≤ most_cells → words < needed_words b → first (size_rules b words room) ≡ Err WorkTooSmall
   unfolding size_rules
   size_small h k = past-cells h ∙ first_here WorkTooSmall _ (ltb words (needed_words b)) (lt-ltb _ _ k)
 
@@ -37,15 +37,15 @@ module _ (words room : ℕ) (b : Problem) where
   unfolding size_rules
   past_words h k = past-cells h ∙ first_next WorkTooSmall _ (ltb words (needed_words b)) (le-ltb _ _ k)
 
-  pub size_short : cells b ≤ most_cells → needed_words b ≤ words → room < sheet_length b → first (size_rules b words room) ≡ Refused BufferTooSmall
+  pub size_short : cells b ≤ most_cells → needed_words b ≤ words → room < sheet_length b → first (size_rules b words room) ≡ Err BufferTooSmall
   unfolding size_rules
   size_short h k l = past_words h k ∙ first_here BufferTooSmall [] (ltb room (sheet_length b)) (lt-ltb _ _ l)
 
-  pub size_none : cells b ≤ most_cells → needed_words b ≤ words → sheet_length b ≤ room → first (size_rules b words room) ≡ Passed
+  pub size_none : cells b ≤ most_cells → needed_words b ≤ words → sheet_length b ≤ room → first (size_rules b words room) ≡ Ok tt
   unfolding size_rules
   size_none h k l = past_words h k ∙ first_last BufferTooSmall (ltb room (sheet_length b)) (le-ltb _ _ l)
 
-  module _ (e : first (size_rules b words room) ≡ Passed) where
+  module _ (e : first (size_rules b words room) ≡ Ok tt) where
     pub fits-cells : cells b ≤ most_cells
     unfolding size_rules
     fits-cells = ltb-false _ _ (first_passed (size_rules b words room) e).0

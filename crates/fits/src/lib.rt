@@ -8,22 +8,22 @@ ghost use Rattle.model.specs.Calls.{size_rules};
 ghost use Rattle.model.specs.Values.{Held, problem_of};
 ghost use Rattle.grid.specs.Geometry.{Capped};
 
-use model::{Book, Finding, Refusal};
+use model::{Book, Refusal};
 
 // Refusals 9 to 11, in this order, of a book with so many cells, for a work area of so many words and a buffer with room for so many bytes.
-pub fn size_finding(book: Book, total: usize, words: usize, room: usize) -> Finding
+pub fn size_finding(book: Book, total: usize, words: usize, room: usize) -> Result<(), Refusal>
     requires held { Held book }
     requires capped { Capped (cells (problem_of book)) total }
     ensures { result ≡ first (size_rules (problem_of book) words room) }
 {
     if Book::CELLS < total {
-        return Finding::Refused(Refusal::TooManyCells);
+        return Err(Refusal::TooManyCells);
     }
     if words < 4 * total {
-        return Finding::Refused(Refusal::WorkTooSmall);
+        return Err(Refusal::WorkTooSmall);
     }
     if room < sheet::sheet_length(book) {
-        return Finding::Refused(Refusal::BufferTooSmall);
+        return Err(Refusal::BufferTooSmall);
     }
-    Finding::Passed
+    Ok(())
 }

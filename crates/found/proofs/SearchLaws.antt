@@ -1,16 +1,19 @@
 -- What the search asks of a book, and what the search and the scan find.
 -- Assumes nothing.
-use mathlib.Core.Path.{◌≡◌, refl, sym, ap, subst, ◌∙◌}
+use mathlib.Core.Path.{◌≡◌, refl, sym, ap, ap₂, subst, ◌∙◌}
 use mathlib.Core.Logic.{⊎_elim}
-use mathlib.Core.Bool.{Bool, true, false, not, false≢true}
+use mathlib.Core.Bool.{true, false, cond}
 use mathlib.Core.List.{List, [], ◌∷◌}
 use mathlib.Core.Option.{Option, none, some, none-ne-some, some-ne-none, some-injective}
 use Prim.Native.Nat.{ℕ, zero, suc, ◌+◌, ◌*◌, ◌<◌, ◌≤◌}
 use native.Mathlib.Omega.{arith}
-use lib.Dec.{eqb}
+use lib.Dec.{ltb}
 use lib.ListN.{length, get_or, drop}
-use borrow.Author.Tests.{eq-eqb, eqb-true, not-true, not-false}
+use borrow.Author.Tests.{lt-ltb, le-ltb}
+use Rattle.std.specs.Prelude.{Ok, Err, Result as Outcome}
 use Rattle.model.specs.declared.Book.{Book}
+use Rattle.model.specs.declared.Refusal.{Refusal}
+use Rattle.model.specs.declared.Refusal.TheVariants.{BudgetExceeded, NoPlan}
 use Rattle.model.specs.Lists.{Every}
 use Rattle.model.specs.Book.{Settings}
 use Rattle.model.specs.Choice.{Choice, code_of}
@@ -29,8 +32,8 @@ use Rattle.model.proofs.HeldLaws.{held-valid, held-count, held-few, held-slots}
 use Rattle.table.specs.declared.Cell.{Cell}
 use Rattle.table.specs.Table.{key_of, key_if}
 use Rattle.grid.specs.declared.Grid.{Grid}
-use Rattle.grid.specs.Geometry.{GridIs}
-use Rattle.grid.proofs.SlotLaws.{slots_length}
+use Rattle.grid.specs.Geometry.{GridIs, Laid}
+use Rattle.grid.proofs.SlotLaws.{laid, slots_length}
 use Rattle.stretch.specs.declared.LoadMoves.{LoadMoves}
 use Rattle.moves.specs.Moves.{moves_of, LoadIs}
 use Rattle.search.specs.Search.{Modelled, LayerIs, Places, Searched, trials_of}
@@ -38,7 +41,8 @@ use Rattle.scan.specs.declared.Test.{Test}
 use Rattle.scan.specs.declared.Test.TheVariants.{Admission, TrueSums}
 use Rattle.scan.specs.Scan.{test_of, best_of_layer, LayerCoded}
 use Rattle.scan.proofs.ScanLaws.{last_cell, scan_plan, scan_strict}
-use Rattle.found.specs.Found.{plan_by, Found}
+use Rattle.found.specs.declared.Planned.{Planned}
+use Rattle.found.specs.Found.{plan_by, found_with, found_for}
 
 -- the last layer lies in the work area
 pub layer_room : {ws ws' lows highs : List ℕ} {grid : Grid} {cur : ℕ} → Places ws ws' lows highs grid cur → 4 * grid.cells ≤ length ws
@@ -88,6 +92,13 @@ pub loads_below : (loads : List Settings) → Every Labelled loads → Every (Ev
 loads_below [] a s = tt
 loads_below (vs ∷ loads) a s = (settings_below vs a.0 s.0, loads_below loads a.1 s.1)
 
+-- the moves of loads on a grid that is laid out are those of the book's slots
+pub moves_are : (v : Book) (held : Held v) (grid : Grid) (is : GridIs (slots_of (problem_of v)) grid) (moves : List LoadMoves)
+    → ((l : Laid grid) (k : ℕ) → k < v.count → LoadIs l.slots k (get_or (problem_of v).loads k []) (moves_of moves k))
+    → (k : ℕ) → k < v.count → LoadIs (slots_of (problem_of v)) k (get_or (problem_of v).loads k []) (moves_of moves k)
+unfolding laid
+moves_are v held grid is moves made = made (laid v held grid is)
+
 module _ (v : Book) (held : Held v) (grid : Grid) (is : GridIs (slots_of (problem_of v)) grid) (moves : List LoadMoves)
     (loads : (k : ℕ) → k < v.count → LoadIs (slots_of (problem_of v)) k (get_or (problem_of v).loads k []) (moves_of moves k)) where
   unfoldable pub model : Modelled grid v.count moves
@@ -136,30 +147,32 @@ module _ (v : Book) (held : Held v) (grid : Grid) (is : GridIs (slots_of (proble
   module _ (test : Test) where
     -- over the budget
     pub found-over : (ws lows highs : List ℕ) (cur ts : ℕ) → Searched ws lows highs grid v.count moves model v.budget cur ts → v.budget < ts
-        → (planned : Bool) (code : ℕ) → Found test (problem_of v) (record { within = false; trials = ts; planned = planned; code = code })
-    unfolding problem_of
-    found-over ws lows highs cur ts s h planned code =
-        record {
-          over = λ e. subst (λ x. v.budget < x) trials_are (s.over h);
-          enough = λ e. absurd (false≢true e);
-          counted = λ e. absurd (false≢true e);
-          missing = λ e. absurd (false≢true e);
-          planned = λ e. absurd (false≢true e);
-        }
+        → Path (Outcome Planned Refusal) (Err BudgetExceeded) (found_for test (problem_of v))
+    unfolding problem_of found_for
+    found-over ws lows highs cur ts s h =
+        let e : ltb v.budget (trials (problem_of v)) ≡ true = lt-ltb _ _ (subst (λ x. v.budget < x) trials_are (s.over h)) in
+        sym (ap (λ t. cond t (Err BudgetExceeded) (found_with (trials (problem_of v)) (plan_by test (problem_of v)))) e)
 
-    module _ (ws lows highs : List ℕ) (cur : ℕ) (r : Cell) (found : key_of r ≡ best_of_layer (test_of test (problem_of v)) ws lows highs grid cur) where
-      -- within the budget: the trials, and the plan
-      pub found_within : (ts : ℕ) → Searched ws lows highs grid v.count moves model v.budget cur ts → ts ≤ v.budget
-          → Found test (problem_of v) (record { within = true; trials = ts; planned = not (eqb r.worth 0); code = r.code })
-      unfolding problem_of
-      found_within ts s h =
-          let w = s.within h in
-          let t : ts ≡ trials (problem_of v) = w.0 ∙ trials_are in
-          let k = found ∙ layer-plan ws lows highs cur w.1 test in
-          record {
-            over = λ e. absurd (false≢true (sym e));
-            enough = λ e. subst (λ x. x ≤ v.budget) t h;
-            counted = λ e. t;
-            missing = λ e f. cell-none r (plan_by test (problem_of v)) k (eqb-true r.worth 0 (not-false (eqb r.worth 0) f));
-            planned = λ e f. cell-some r (plan_by test (problem_of v)) k (λ z. false≢true (sym (not-true (eqb r.worth 0) f) ∙ eq-eqb r.worth 0 z));
-          }
+    module _ (ws lows highs : List ℕ) (cur : ℕ) (r : Cell) (found : key_of r ≡ best_of_layer (test_of test (problem_of v)) ws lows highs grid cur)
+        (ts : ℕ) (s : Searched ws lows highs grid v.count moves model v.budget cur ts) (h : ts ≤ v.budget) where
+      -- within the budget the plan decides
+      counted : ts ≡ trials (problem_of v)
+      counted = (s.within h).0 ∙ trials_are
+
+      plan_decides : (m : Option Choice) → plan_by test (problem_of v) ≡ m → found_with ts m ≡ found_for test (problem_of v)
+      unfolding problem_of found_for
+      plan_decides m e =
+          let q : ltb v.budget (trials (problem_of v)) ≡ false = le-ltb _ _ (subst (λ x. x ≤ v.budget) counted h) in
+          ap₂ found_with counted (sym e)
+          ∙ sym (ap (λ t. cond t (Err BudgetExceeded) (found_with (trials (problem_of v)) (plan_by test (problem_of v)))) q)
+
+      key_is : key_of r ≡ key? (plan_by test (problem_of v))
+      key_is = found ∙ layer-plan ws lows highs cur (s.within h).1 test
+
+      pub found-missing : r.worth ≡ 0 → Path (Outcome Planned Refusal) (Err NoPlan) (found_for test (problem_of v))
+      found-missing z = plan_decides none (cell-none r (plan_by test (problem_of v)) key_is z)
+
+      pub found-plan : (r.worth ≡ 0 → ⊥) → Path (Outcome Planned Refusal) (Ok (record { trials = ts; code = r.code })) (found_for test (problem_of v))
+      found-plan n =
+          let c = cell-some r (plan_by test (problem_of v)) key_is n in
+          ap (λ k. Ok (record { trials = ts; code = k })) c.2 ∙ plan_decides (some c.0) c.1

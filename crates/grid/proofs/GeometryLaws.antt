@@ -14,7 +14,7 @@ use Rattle.model.specs.Index.{depth_of, row_count, column_count, column_index}
 use Rattle.model.proofs.IndexLaws.{cells-area}
 use Rattle.grid.specs.declared.Grid.{Grid}
 use Rattle.grid.specs.declared.SlotGrid.{SlotGrid}
-use Rattle.grid.specs.Geometry.{SlotIs, no_slot, entry_at, GridIs}
+use Rattle.grid.specs.Geometry.{SlotIs, no_slot, no_sizes, entry_at, GridIs}
 use Rattle.grid.proofs.ArrayLaws.{set-down}
 
 pub rows_some : (slots : List Slot) → 1 ≤ row_count slots
@@ -77,10 +77,7 @@ module _ (slots : List Slot) (t : ℕ) (l : t < length slots) (x : SlotGrid) (is
 -- ---- the geometry as it is made, from slot t on
 
 pub record MadeFrom (slots : List Slot) (t : ℕ) (v : Grid) : Type 0 where
-  pub steps_length : length v.steps ≡ 4
-  pub tops_length : length v.tops ≡ 4
-  pub widths_length : length v.widths ≡ 4
-  pub depths_length : length v.depths ≡ 4
+  pub sizes_length : length v.sizes ≡ 4
   pub each : (i : ℕ) → t ≤ i → i < length slots → SlotIs (get_or slots i no_slot) (entry_at v i)
   pub rows_are : v.rows ≡ row_count (drop t slots)
   pub width_is : v.width ≡ column_count (drop t slots)
@@ -88,15 +85,12 @@ pub record MadeFrom (slots : List Slot) (t : ℕ) (v : Grid) : Type 0 where
   pub origin_is : v.origin ≡ column_index (drop t slots) (grids_of (drop t slots) [])
   pub below : v.origin < v.width
 
-pub grid_none : (slots : List Slot) (n : ℕ) (steps tops widths depths : List ℕ) → n ≡ length slots → length steps ≡ 4 → length tops ≡ 4 → length widths ≡ 4 → length depths ≡ 4
-    → MadeFrom slots n (record { slots = n; steps = steps; tops = tops; widths = widths; depths = depths; rows = 1; width = 1; cells = 1; origin = 0 })
-grid_none slots n steps tops widths depths e a b c d =
+pub grid_none : (slots : List Slot) (n : ℕ) (sizes : List SlotGrid) → n ≡ length slots → length sizes ≡ 4
+    → MadeFrom slots n (record { slots = n; sizes = sizes; rows = 1; width = 1; cells = 1; origin = 0 })
+grid_none slots n sizes e a =
     let none : drop n slots ≡ [] = drop_of_length-le slots {i = n} (omega arith) in
     record {
-      steps_length = a;
-      tops_length = b;
-      widths_length = c;
-      depths_length = d;
+      sizes_length = a;
       each = λ i h l. absurd (omega arith);
       rows_are = ap row_count (sym none);
       width_is = ap column_count (sym none);
@@ -110,10 +104,7 @@ abbrev pub grid_with : Grid → ℕ → SlotGrid → Grid
 grid_with v t x =
     record {
       slots = v.slots;
-      steps = set v.steps t x.step;
-      tops = set v.tops t x.top;
-      widths = set v.widths t x.width;
-      depths = set v.depths t x.depth;
+      sizes = set v.sizes t x;
       rows = v.rows * x.top;
       width = v.width * x.width;
       cells = v.cells * (x.top * x.width);
@@ -122,24 +113,11 @@ grid_with v t x =
 
 module _ (slots : List Slot) (t : ℕ) (few : length slots ≤ 4) (l : t < length slots) (x : SlotGrid) (is : SlotIs (get_or slots t no_slot) x)
     (deep : x.depth < x.width) (v : Grid) (g : MadeFrom slots (suc t) v) where
-  -- an array with slot t's entry
-  entries : (f : Slot → ℕ) (xs : List ℕ) (y : ℕ) → length xs ≡ 4 → y ≡ f (get_or slots t no_slot)
-      → ((i : ℕ) → suc t ≤ i → i < length slots → get_or xs i 0 ≡ f (get_or slots i no_slot)) → (i : ℕ) → t ≤ i → i < length slots → get_or (set xs t y) i 0 ≡ f (get_or slots i no_slot)
-  entries f xs y four e h = set-down (λ i z. z ≡ f (get_or slots i no_slot)) xs t (length slots) y 0 (omega arith) e h
-
   pub grid_more : MadeFrom slots t (grid_with v t x)
   grid_more =
       record {
-        steps_length = length-set v.steps t x.step ∙ g.steps_length;
-        tops_length = length-set v.tops t x.top ∙ g.tops_length;
-        widths_length = length-set v.widths t x.width ∙ g.widths_length;
-        depths_length = length-set v.depths t x.depth ∙ g.depths_length;
-        each = λ i h k. record {
-          step_is = entries (λ s. s.step) v.steps x.step g.steps_length is.step_is (λ j a b. (g.each j a b).step_is) i h k;
-          top_is = entries (λ s. grid_top s + 1) v.tops x.top g.tops_length is.top_is (λ j a b. (g.each j a b).top_is) i h k;
-          width_is = entries width_of v.widths x.width g.widths_length is.width_is (λ j a b. (g.each j a b).width_is) i h k;
-          depth_is = entries depth_of v.depths x.depth g.depths_length is.depth_is (λ j a b. (g.each j a b).depth_is) i h k;
-        };
+        sizes_length = length-set v.sizes t x ∙ g.sizes_length;
+        each = set-down (λ i y. SlotIs (get_or slots i no_slot) y) v.sizes t (length slots) x no_sizes (omega (arith, g.sizes_length)) is g.each;
         rows_are = ap (λ n. n * x.top) g.rows_are ∙ rows_more slots t l x is;
         width_is = ap (λ n. n * x.width) g.width_is ∙ columns_more slots t l x is;
         cells_are = ap (λ n. n * (x.top * x.width)) g.cells_are ∙ cells-more slots t l x is;

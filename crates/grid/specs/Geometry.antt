@@ -21,9 +21,13 @@ pub record SlotIs (s : Slot) (x : SlotGrid) : Type 0 where
 abbrev pub no_slot : Slot
 no_slot = record { place = 0; limit = 0; step = 1; loads = 0; ratio = 1 }
 
--- what stands at place t of the arrays
+-- what is read past the last of the sizes
+abbrev pub no_sizes : SlotGrid
+no_sizes = record { step = 0; top = 0; width = 0; depth = 0 }
+
+-- the sizes at place t
 abbrev pub entry_at : Grid → ℕ → SlotGrid
-entry_at v t = record { step = get_or v.steps t 0; top = get_or v.tops t 0; width = get_or v.widths t 0; depth = get_or v.depths t 0 }
+entry_at v t = get_or v.sizes t no_sizes
 
 -- THE GEOMETRY of the table of these slots, where its cells are within their bound
 pub record GridIs (slots : List Slot) (v : Grid) : Type 0 where

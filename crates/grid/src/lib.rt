@@ -9,19 +9,16 @@ ghost use Rattle.grid.specs.Geometry.{SlotIs, BookGrid};
 
 use model::Book;
 
-// The table's geometry: the cells, the columns of a row, the rows, and for each slot the number R + 1 of active grid values, all of which the search asks for; the
-// column of no power; and for each slot the step L, the number of reactive grid values, and how far below 0 these begin.
+// The table's geometry: the cells, the columns of a row, the rows, the column of no power, and the sizes of each slot. What holds of it (`GridIs`, `GridFits`)
+// is a clause, as `grid_of` gives a grid for a table that is too large, too, of which neither holds.
 #[derive(Clone, Copy)]
 pub struct Grid {
     pub cells: usize,
     pub width: usize,
     pub rows: usize,
-    pub slots: usize,
-    pub tops: [usize; Book::SLOTS],
     pub origin: usize,
-    pub steps: [u64; Book::SLOTS],
-    pub widths: [usize; Book::SLOTS],
-    pub depths: [usize; Book::SLOTS],
+    pub slots: usize,
+    pub sizes: [SlotGrid; Book::SLOTS],
 }
 
 impl Grid {
@@ -29,7 +26,7 @@ impl Grid {
     pub const ROWS: usize = 724;
 }
 
-// One slot's entries in the arrays.
+// One slot's sizes: the step L, the number R + 1 of active grid values, the number of reactive ones, and how far below 0 these begin.
 #[derive(Clone, Copy)]
 pub struct SlotGrid {
     pub step: u64,
@@ -77,39 +74,33 @@ pub fn grid_of(book: Book) -> Grid
     let slots = book.slots;
     let limits = book.limits;
     let ratio = book.ratio as usize;
-    let mut steps = [0u64; Book::SLOTS];
-    let mut tops = [0usize; Book::SLOTS];
-    let mut widths = [0usize; Book::SLOTS];
-    let mut depths = [0usize; Book::SLOTS];
+    let mut sizes = [SlotGrid {
+        step: 0,
+        top: 0,
+        width: 0,
+        depth: 0,
+    }; Book::SLOTS];
     let mut rows: usize = 1;
     let mut width: usize = 1;
     let mut cells: usize = 1;
     let mut origin: usize = 0;
-    let mut t = slots;
-    while 0 < t && cells <= Book::CELLS {
-        t -= 1;
+    for t in (0..slots).rev() {
+        if Book::CELLS < cells {
+            break;
+        }
         let slot = slot_of(limits[t], book.count, book.fineness, ratio);
-        let top = slot.top;
-        let wide = slot.width;
-        let depth = slot.depth;
-        steps[t] = slot.step;
-        tops[t] = top;
-        widths[t] = wide;
-        depths[t] = depth;
-        rows = rows * top;
-        width = width * wide;
-        cells = cells * (top * wide);
-        origin = origin * wide + depth;
+        sizes[t] = slot;
+        rows *= slot.top;
+        width *= slot.width;
+        cells *= slot.top * slot.width;
+        origin = origin * slot.width + slot.depth;
     }
     Grid {
-        slots,
-        steps,
-        tops,
-        widths,
-        depths,
-        rows,
-        width,
         cells,
+        width,
+        rows,
         origin,
+        slots,
+        sizes,
     }
 }

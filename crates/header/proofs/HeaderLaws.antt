@@ -6,7 +6,7 @@ use mathlib.Core.List.{List}
 use Prim.Native.Nat.{ℕ, ◌<◌, ◌≤◌}
 use native.Mathlib.Omega.{arith}
 use borrow.Author.Tests.{eqb-true, not-false}
-use Rattle.model.specs.declared.Finding.TheVariants.{Passed}
+use Rattle.std.specs.Prelude.{Ok}
 use Rattle.model.specs.Frames.{field}
 use Rattle.model.specs.Refusals.{first}
 use Rattle.model.specs.Book.{slot_count, states_ratio, ratio_digits, ratio_in, header_rules}
@@ -34,10 +34,10 @@ ratio-stated line = go (states_ratio line)
 
 -- ---- lines that are not refused
 
-pub passed_ranges : (line : List ℕ) → first (header_rules line) ≡ Passed → HeaderRanges line
+pub passed_ranges : (line : List ℕ) → first (header_rules line) ≡ Ok tt → HeaderRanges line
 passed_ranges line e = header_ranges line (first_passed (header_rules line) e)
 
-pub header_line_lem : (line : List ℕ) → first (header_rules line) ≡ Passed → HeaderLine (slot_count line) line
+pub header_line_lem : (line : List ℕ) → first (header_rules line) ≡ Ok tt → HeaderLine (slot_count line) line
 unfolding header_rules
 header_line_lem line e =
     record {

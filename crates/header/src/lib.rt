@@ -8,17 +8,15 @@ ghost use Rattle.model.specs.Book.{ratio_digits, ratio_in, budget_in, limits_in,
 ghost use Rattle.model.specs.Bounds.{most_slots};
 ghost use Rattle.header.specs.Header.{HeaderLine};
 
-use model::{Book, Finding, Refusal};
+use model::{Book, Refusal};
 
 // How many digits a header line has for its ratio, by its kind.
+#[tactic(auto, unfolding(model::specs::Book::ratio_digits, model::specs::Book::states_ratio))]
 fn ratio_digits(line: &[u8]) -> usize
     requires { 2 ≤ length line.now }
     ensures { result ≡ ratio_digits line.now }
 {
-    if hexadecimal::number(line, 0, 2) == 8 {
-        return 2;
-    }
-    0
+    hexadecimal::of_kind(line, 8, 2)
 }
 
 // The ratio; 1 where the line states none.
@@ -42,33 +40,34 @@ pub fn budget_of(line: &[u8]) -> u64
 }
 
 // Refusals 2 to 6, in this order, of a header line.
-pub fn header_finding(line: &[u8]) -> Finding
+#[tactic(auto, using(model::proofs::FrameLaws::field_below, model::proofs::LengthLaws::ratio_few), unfolding(model::specs::Book::header_rules, model::specs::Refusals::first))]
+pub fn header_finding(line: &[u8]) -> Result<(), Refusal>
     ensures { result ≡ first (header_rules line.now) }
 {
     if !hexadecimal::all_digits(line) {
-        return Finding::Refused(Refusal::NotHex);
+        return Err(Refusal::NotHex);
     }
     if hexadecimal::wrong_kind(line, &[1, 8]) {
-        return Finding::Refused(Refusal::WrongKind);
+        return Err(Refusal::WrongKind);
     }
     let slots = hexadecimal::number(line, 2, 2);
     if hexadecimal::outside(slots, 1, Book::SLOTS as u64) {
-        return Finding::Refused(Refusal::SlotsOrOptionsOutOfRange);
+        return Err(Refusal::SlotsOrOptionsOutOfRange);
     }
     let digits = ratio_digits(line);
     if line.len() as u64 != 16 + digits as u64 + 4 * slots {
-        return Finding::Refused(Refusal::WrongLength);
+        return Err(Refusal::WrongLength);
     }
     if hexadecimal::outside(hexadecimal::number(line, 4, 2), 1, Book::LOADS as u64) {
-        return Finding::Refused(Refusal::LoadsOrFinenessOutOfRange);
+        return Err(Refusal::LoadsOrFinenessOutOfRange);
     }
     if hexadecimal::outside(hexadecimal::number(line, 6, 2), 1, Book::FINENESS) {
-        return Finding::Refused(Refusal::LoadsOrFinenessOutOfRange);
+        return Err(Refusal::LoadsOrFinenessOutOfRange);
     }
     if hexadecimal::outside(ratio_of(line), 1, Book::RATIO) {
-        return Finding::Refused(Refusal::LoadsOrFinenessOutOfRange);
+        return Err(Refusal::LoadsOrFinenessOutOfRange);
     }
-    Finding::Passed
+    Ok(())
 }
 
 // The limit of slot s, counted from 0; 0 past the last slot.

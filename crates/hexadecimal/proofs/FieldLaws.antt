@@ -1,39 +1,38 @@
--- Laws of reading, for the loops of `all_digits`, `number`, `line_length` and `wrong_kind`, and for a part that is lent.
+-- Laws of reading, for `all_digits`, `number` and `line_length`, and for a part that is lent.
 -- Assumes nothing.
-use Prim.Native.Nat.{ℕ, suc, ◌+◌, ◌*◌, ◌-◌, ◌<◌, ◌≤◌}
+use Prim.Native.Nat.{ℕ, ◌+◌, ◌*◌, ◌-◌, ◌<◌, ◌≤◌}
 use mathlib.Core.List.{List}
-use mathlib.Core.Bool.{Bool, true, false}
+use mathlib.Core.Bool.{Bool}
 use mathlib.Core.Path.{◌≡◌}
 use native.Mathlib.Numerals.{add-one}
 use native.Mathlib.Omega.{arith}
-use borrow.Author.Tests.{eq-eqb, ne_eqb}
+use borrow.Author.Tests.{lt-ltb, le-ltb}
 use lib.Dec.{eqb}
 use lib.ListN.{length, get_or, take, drop, length-drop}
-use lib.Seq.{drop-cons, drop-length, take_all, take-suc, get_or-drop}
-use Rattle.model.specs.Lists.{all, any}
-use Rattle.model.specs.Frames.{is_digit, digit_value, field, line_length}
+use lib.Seq.{take_all, take-suc, get_or-drop}
+use Rattle.std.specs.List.{list_all, position_or_len}
+use Rattle.std.proofs.Common.{Option, Some, None, position, unwrap_or, ◌&&◌, refl, ap, ◌∙◌, cond, ltb, inl, inr}
+use Rattle.std.proofs.lemmas.List.Sums.{prefix_len-le-length}
+use Rattle.model.proofs.IntegerLaws.{split}
+use Rattle.std.proofs.lemmas.List.Recursion.{same_from_clauses, is_position_or_len}
+use Rattle.model.specs.Lists.{all}
+use Rattle.model.specs.Frames.{digit_value, field, line_length}
 use Rattle.model.proofs.FrameLaws.{value_last}
 
--- all digits: past a digit the rest decides; at another byte the answer is no; at the end yes
-pub digits_go : (s : List ℕ) (i : ℕ) (t : Bool) → i < length s → is_digit (get_or s i 0) ≡ true → all is_digit (drop i s) ≡ t → all is_digit (drop (i + 1) s) ≡ t
-digits_go s i t h d e = rw add-one (rw (drop-cons s i 0, d) at e)
+-- the library's `all`, at a test of a byte
+pub all_is : (p : ℕ → Bool) (s : List ℕ) → list_all p s ≡ all p s
+all_is p = same_from_clauses (list_all p) (all p) (λ x r. p x && r) refl (λ _ _. refl) (λ _ _. refl)
 
-pub digits_stop : (s : List ℕ) (i : ℕ) (t : Bool) → i < length s → is_digit (get_or s i 0) ≡ false → all is_digit (drop i s) ≡ t → false ≡ t
-digits_stop s i t h d e = rw (drop-cons s i 0, d) at e
-
-pub digits-end : (s : List ℕ) (i : ℕ) (t : Bool) → i ≡ length s → all is_digit (drop i s) ≡ t → true ≡ t
-digits-end s i t h e = rw (h, drop-length) at e
-
--- one of the kinds: past another one the rest decides; at the kind itself the answer is yes; at the end no
-module _ (kind : ℕ) (kinds : List ℕ) (i : ℕ) (t : Bool) (e : any (eqb kind) (drop i kinds) ≡ t) where
-  pub kinds_go : i < length kinds → (kind ≡ get_or kinds i 0 → ⊥) → any (eqb kind) (drop (i + 1) kinds) ≡ t
-  kinds_go h d = rw add-one (rw (drop-cons kinds i 0, ne_eqb kind (get_or kinds i 0) d) at e)
-
-  pub kinds_stop : i < length kinds → kind ≡ get_or kinds i 0 → true ≡ t
-  kinds_stop h d = rw (drop-cons kinds i 0, eq-eqb kind (get_or kinds i 0) d) at e
-
-  pub kinds_end : i ≡ length kinds → false ≡ t
-  kinds_end h = rw (h, drop-length) at e
+-- the length of a line: what the library's `position` answers of the first LF, or the whole length
+pub line_found : (s : List ℕ) (o : Option ℕ) (r : ℕ) → o ≡ position (λ b. eqb b 10) s → r ≡ unwrap_or o (length s) → r ≡ line_length s
+unfolding line_length
+line_found s o r e q =
+    let p = λ (b : ℕ). eqb b 10 in
+    let is : line_length s ≡ position_or_len p s = is_position_or_len line_length p refl (λ x xs. ap (cond (eqb x 10) 0) (omega arith)) s in
+    q ∙ rw (e, is) (go (position_or_len p s) (length s) (prefix_len-le-length _ s))
+  where
+    go : (n m : ℕ) → n ≤ m → unwrap_or (cond (ltb n m) (Some n) None) m ≡ n
+    go n m h = elim (split n m) [ inl l ↦ rw (lt-ltb n m l) refl | inr l ↦ rw (le-ltb n m l) (omega arith) ]
 
 -- a number: one digit more
 pub field-more : (s : List ℕ) (at i : ℕ) → at + i < length s → field s at (i + 1) ≡ field s at i * 16 + digit_value (get_or s (at + i) 0)
@@ -41,25 +40,6 @@ unfolding field
 field-more s at i h =
     let l : i < length (drop at s) = simp length-drop (omega arith) in
     rw (add-one, take-suc (drop at s) i 0, value_last, get_or-drop)
-
--- the length of a line: past a byte that is no LF it is one more; at an LF and at the end it is reached
-pub line_go : (s : List ℕ) (i t : ℕ) → i < length s → (get_or s i 0 ≡ 10 → ⊥) → i + line_length (drop i s) ≡ t → (i + 1) + line_length (drop (i + 1) s) ≡ t
-unfolding line_length
-line_go s i t h d e =
-    let f : i + suc (line_length (drop (suc i) s)) ≡ t = rw (drop-cons s i 0, ne_eqb (get_or s i 0) 10 d) at e in
-    rw (add-one i) (omega arith)
-
-pub line_stop : (s : List ℕ) (i t : ℕ) → i < length s → get_or s i 0 ≡ 10 → i + line_length (drop i s) ≡ t → i ≡ t
-unfolding line_length
-line_stop s i t h d e =
-    let f : i + 0 ≡ t = rw (drop-cons s i 0, eq-eqb (get_or s i 0) 10 d) at e in
-    omega arith
-
-pub line-end : (s : List ℕ) (i t : ℕ) → i ≡ length s → i + line_length (drop i s) ≡ t → i ≡ t
-unfolding line_length
-line-end s i t h e =
-    let f : length s + 0 ≡ t = rw (h, drop-length) at e in
-    omega arith
 
 -- the part from a place on, as it is lent
 pub rest_is : (s : List ℕ) (at : ℕ) → at ≤ length s → take (length s - at) (drop at s) ≡ drop at s

@@ -17,7 +17,7 @@ fn fits(p: u64, q: u64, zero: u64, limit: u64) -> bool
     requires { (p < 2147483648) × (q < 2147483648) × (zero < 2147483648) × (limit < 65536) }
     ensures { result ≡ leb (square p + square ((q - zero) + (zero - q))) (square limit) }
 {
-    let size = model::distance(q, zero);
+    let size = q.abs_diff(zero);
     p * p + size * size <= limit * limit
 }
 
@@ -29,12 +29,10 @@ pub fn keeps(sums: Sums, book: Book) -> bool
         → result ≡ keeps_limits (slots_of (problem_of book)) c }
 {
     let zero = 32768 * book.count as u64;
-    let mut s: usize = 0;
-    while s < book.slots {
+    for s in 0..book.slots {
         if !fits(sums.actives[s], sums.reactives[s], zero, book.limits[s]) {
             return false;
         }
-        s += 1;
     }
     true
 }

@@ -15,10 +15,9 @@ fn write_numbers(buf: &mut [u8], at: usize, picks: [usize; Book::LOADS], count: 
     requires { (count ≤ most_loads) × (at + 2 * count ≤ length buf.old) }
     ensures { buf.new ≡ written buf.old at (numbers_in picks count) }
 {
-    let mut k = 0;
-    while k < count {
+    // Not `hexadecimal::write_row`: an array of u64 made from these numbers is no plainer.
+    for k in 0..count {
         hexadecimal::write(buf, at + 2 * k, 2, picks[k] as u64);
-        k += 1;
     }
 }
 
@@ -37,7 +36,7 @@ pub fn write_first(
     hexadecimal::write(buf, 2, 8, worth);
     hexadecimal::write(buf, 10, 8, trials);
     write_numbers(buf, 18, picks, count);
-    buf[18 + 2 * count] = 10;
+    buf[18 + 2 * count] = b'\n';
 }
 
 // Writes one slot line from `at` on.
@@ -49,7 +48,7 @@ fn write_slot(part: &mut [u8], at: usize, active: u64, word: u64, limit: u64)
     hexadecimal::write(part, at + 2, 8, active);
     hexadecimal::write(part, at + 10, 8, word);
     hexadecimal::write(part, at + 18, 4, limit);
-    part[at + 22] = 10;
+    part[at + 22] = b'\n';
 }
 
 // The two's complement word, of 32 bits, of `reactive` - `base`.
@@ -74,10 +73,8 @@ pub fn write_slots(
     ensures { part.new ≡ written part.old 0 (slots_bytes count actives reactives limits slots) }
 {
     let base = 32768 * count as u64;
-    let mut s = 0;
-    while s < slots {
+    for s in 0..slots {
         let word = word_of(reactives[s], base);
         write_slot(part, 23 * s, actives[s], word, limits[s]);
-        s += 1;
     }
 }

@@ -13,7 +13,7 @@ use lib.Dec.{eqb}
 use lib.IntN.{ℤ, pos, negsuc, nat_abs, sub_ℕ}
 use lib.ListN.{length, get_or, get_or-eq_default}
 use borrow.Author.Tests.{lt-ltb, le-ltb, ne_eqb, eqb-true, not-false}
-use Rattle.model.specs.declared.Finding.TheVariants.{Passed}
+use Rattle.std.specs.Prelude.{Ok}
 use Rattle.model.specs.Lists.{upto_from, upto, any, Every}
 use Rattle.model.specs.Frames.{field, signed}
 use Rattle.model.specs.Refusals.{first}
@@ -31,7 +31,7 @@ use Rattle.hexadecimal.proofs.RangeLaws.{in_range_lem}
 use Rattle.loadline.specs.LoadLine.{LoadLine}
 
 -- a line that is not refused
-pub load_line : (t r : ℕ) (line : List ℕ) → t ≤ 4 → first (load_rules t r line) ≡ Passed → LoadLine t (standing_pairs t line) (option_count line) line
+pub load_line : (t r : ℕ) (line : List ℕ) → t ≤ 4 → first (load_rules t r line) ≡ Ok tt → LoadLine t (standing_pairs t line) (option_count line) line
 unfolding load_rules
 load_line t r line h e =
     let n = first_passed (load_rules t r line) e in
@@ -71,6 +71,12 @@ option_ranges t pairs j o line h p = (h.slots, pairs_few t pairs o line h, omega
 -- the line reaches to the end of option j + 1, and of what it carries for standing
 pub holds_option : (t pairs j o : ℕ) (line : List ℕ) → LoadLine t pairs o line → j < o → option_start t pairs (j + 1) ≤ length line
 holds_option t pairs j o line h p = rw h.long (option_mono t pairs (j + 1) o (omega arith))
+
+-- so its worth and powers lie within the line, and where they stand is small
+pub option_within : (t pairs j o : ℕ) (line : List ℕ) → LoadLine t pairs o line → j < o → (option_start t pairs j + (4 + 8 * t) ≤ length line) × (option_start t pairs j ≤ 144)
+option_within t pairs j o line h p =
+    let r : (t ≤ 4) × (pairs ≤ t) × (j ≤ 3) = option_ranges t pairs j o line h (omega arith) in
+    (omega (arith, holds_option t pairs j o line h p, option_next t pairs j), option-small t pairs j r.0 r.1 r.2)
 
 pub line_holds : (t pairs o : ℕ) (line : List ℕ) → LoadLine t pairs o line → 4 + 8 * pairs ≤ length line
 unfolding option_start

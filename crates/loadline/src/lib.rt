@@ -11,7 +11,7 @@ ghost use Rattle.model.specs.Values.{load_value};
 ghost use Rattle.model.specs.Bounds.{most_slots, most_ratio, most_options, most_settings};
 ghost use Rattle.loadline.specs.LoadLine.{LoadLine, power_value};
 
-use model::{Book, Finding, Load, Refusal};
+use model::{Book, Load, Refusal};
 
 // An active power, and a reactive power plus 32,768.
 #[derive(Clone, Copy)]
@@ -32,25 +32,21 @@ impl PowerValue {
 }
 
 // How many pairs for standing a load line carries, by its kind.
+#[tactic(auto, unfolding(model::specs::Book::standing_pairs))]
 fn standing_pairs(line: &[u8], slots: usize) -> usize
     requires { 4 ≤ length line.now }
     ensures { result ≡ standing_pairs slots line.now }
 {
-    if hexadecimal::number(line, 0, 2) == 6 {
-        return slots;
-    }
-    0
+    hexadecimal::of_kind(line, 6, slots)
 }
 
 // The least number of a load line's settings, by its kind: 0, which is standing, or 1 where its load must run.
+#[tactic(auto, unfolding(model::specs::MustRun::least_number, model::specs::Book::must_run))]
 fn least_number(line: &[u8]) -> usize
     requires { 4 ≤ length line.now }
     ensures { result ≡ least_number line.now }
 {
-    if hexadecimal::number(line, 0, 2) == 7 {
-        return 1;
-    }
-    0
+    hexadecimal::of_kind(line, 7, 1)
 }
 
 // Where option j + 1 of a load line with so many pairs for standing starts.
@@ -117,7 +113,7 @@ fn exceeds_at(
     ensures { result ≡ reactive_exceeds ratio (power_in s (setting_of (settings slots line.now) c)) }
 {
     let power = power_of(line, slots, pairs, count, c, s);
-    ratio * power.active < model::distance(power.reactive, 32768)
+    ratio * power.active < power.reactive.abs_diff(32768)
 }
 
 // |Q| > r × P in some setting and slot; where the load must run, setting 0 has no power and exceeds nowhere.
@@ -140,29 +136,30 @@ fn some_exceeds(line: &[u8], slots: usize, ratio: u64, pairs: usize, count: usiz
 }
 
 // Refusals 2 to 5 and 7, in this order, of a load line.
-pub fn load_finding(line: &[u8], slots: usize, ratio: u64) -> Finding
+#[tactic(auto, using(model::proofs::LengthLaws::pairs_most, hexadecimal::proofs::RangeLaws::in_range_lem), unfolding(model::specs::Book::load_rules, model::specs::Refusals::first))]
+pub fn load_finding(line: &[u8], slots: usize, ratio: u64) -> Result<(), Refusal>
     requires { (slots ≤ most_slots) × (ratio ≤ most_ratio) }
     ensures { result ≡ first (load_rules slots ratio line.now) }
 {
     if !hexadecimal::all_digits(line) {
-        return Finding::Refused(Refusal::NotHex);
+        return Err(Refusal::NotHex);
     }
     if hexadecimal::wrong_kind(line, &[2, 6, 7]) {
-        return Finding::Refused(Refusal::WrongKind);
+        return Err(Refusal::WrongKind);
     }
     let count = hexadecimal::number(line, 2, 2);
     if hexadecimal::outside(count, 1, Book::OPTIONS as u64) {
-        return Finding::Refused(Refusal::SlotsOrOptionsOutOfRange);
+        return Err(Refusal::SlotsOrOptionsOutOfRange);
     }
     let pairs = standing_pairs(line, slots);
     let due = option_start(slots, pairs, count as usize);
     if line.len() != due {
-        return Finding::Refused(Refusal::WrongLength);
+        return Err(Refusal::WrongLength);
     }
     if some_exceeds(line, slots, ratio, pairs, count as usize) {
-        return Finding::Refused(Refusal::ReactiveExceedsActive);
+        return Err(Refusal::ReactiveExceedsActive);
     }
-    Finding::Passed
+    Ok(())
 }
 
 // The worth of setting c; 0 for standing and past the last option.

@@ -13,9 +13,8 @@ use lib.Seq.{take_at}
 use Rattle.model.specs.declared.Answer.{Answer}
 use Rattle.model.specs.declared.Refusal.{Refusal}
 use Rattle.model.specs.declared.Refusal.TheVariants.{BufferTooSmall}
-use Rattle.model.specs.declared.Finding.{Finding}
-use Rattle.model.specs.declared.Finding.TheVariants.{Passed, Refused}
-use Rattle.model.specs.Refusals.{Result, refused, done, first, checked, number_of}
+use Rattle.std.specs.Prelude.{Ok, Err}
+use Rattle.model.specs.Refusals.{Finding, Result, refused, done, first, checked, number_of}
 use Rattle.model.specs.Answers.{Output, bytes_only, refusal_answer, answer_of, buffer_after, Writes, room_rule, in_room}
 use Rattle.model.specs.Frames.{digits}
 use Rattle.model.specs.Sheet.{lf}
@@ -68,8 +67,8 @@ module _ (bytes : List ℕ) (room : ℕ) where
   room_left {before} {after} {a} w zero = go (first (room_rule (length bytes) room ∷ [])) w
     where
       go : (f : Finding) → Writes (checked 0 f (done (bytes_only bytes))) before after a → take a.bytes after ≡ bytes
-      go Passed w = bytes_left (done (bytes_only bytes)) w
-      go (Refused r) w = absurd (number-some r (sym (ap (λ (x : Answer). x.number) w.answers) ∙ zero))
+      go (Ok tt) w = bytes_left (done (bytes_only bytes)) w
+      go (Err r) w = absurd (number-some r (sym (ap (λ (x : Answer). x.number) w.answers) ∙ zero))
 
 -- ---- what is printed
 

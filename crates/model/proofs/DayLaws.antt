@@ -11,11 +11,10 @@ use lib.Dec.{ltb, eqb}
 use lib.ListN.{length, length-append, length-map}
 use borrow.Author.Tests.{eqb-true, le-ltb}
 use Rattle.model.specs.declared.Answer.{Answer}
-use Rattle.model.specs.declared.Finding.{Finding}
 use Rattle.model.specs.declared.Refusal.TheVariants.{TooManyCells, WorkTooSmall, BufferTooSmall, NoPlan}
 use Rattle.model.specs.Lists.{concat}
 use Rattle.model.specs.Bounds.{most_cells, most_sheet, most_books}
-use Rattle.model.specs.Refusals.{Result, refused, done, ◌⇒◌, first, checked, and_then, number_of}
+use Rattle.model.specs.Refusals.{Finding, Result, refused, done, ◌⇒◌, first, checked, and_then, number_of}
 use Rattle.model.specs.Answers.{Output, bytes_only, answer_of}
 use Rattle.model.specs.Book.{Problem, read_book}
 use Rattle.model.specs.Choice.{Choice}

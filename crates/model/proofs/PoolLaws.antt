@@ -11,7 +11,7 @@ use lib.Dec.{ltb, eqb}
 use lib.IntN.{nat_abs}
 use lib.ListN.{length, length-append}
 use borrow.Author.Tests.{le-ltb, ltb-false, eqb-true, not-false}
-use Rattle.model.specs.declared.Finding.TheVariants.{Passed}
+use Rattle.std.specs.Prelude.{Ok}
 use Rattle.model.specs.Lists.{Every, any}
 use Rattle.model.specs.Bounds.{most_loads, most_limit, most_book}
 use Rattle.model.specs.Frames.{line_of, after_line}
@@ -99,7 +99,7 @@ pub pool_read : (one two : List ℕ) (m : Mills) → poolable one two ≡ done m
 unfolding poolable read_both
 pool_read one two m e =
     let x : (x : Mills) × (and_then (read_book one) (with_second two) ≡ done x) × (matching x ≡ done m) = then_done (and_then (read_book one) (with_second two)) matching m e in
-    let c : (first (pair_rules x.0) ≡ Passed) × (Path (Result Mills) (done x.0) (done m)) = checked-done 0 (first (pair_rules x.0)) (done x.0) m x.2 in
+    let c : (first (pair_rules x.0) ≡ Ok tt) × (Path (Result Mills) (done x.0) (done m)) = checked-done 0 (first (pair_rules x.0)) (done x.0) m x.2 in
     let a : (a : Problem) × (read_book one ≡ done a) × (with_second two a ≡ done x.0) = then_done (read_book one) (with_second two) x.0 x.1 in
     let b : (b : Problem) × (later (suc (N a.0)) (read_book two) ≡ done b) × (Path (Result Mills) (done (record { a = a.0; b = b })) (done x.0))
     = then_done (later (suc (N a.0)) (read_book two)) (λ b. done (record { a = a.0; b = b })) x.0 a.2 in

@@ -8,10 +8,9 @@ use Prim.Native.Nat.{ℕ, ◌≤◌}
 use native.Mathlib.Omega.{arith}
 use Rattle.model.specs.declared.Refusal.{Refusal}
 use Rattle.model.specs.declared.Refusal.TheVariants.{Unterminated, NotHex, WrongKind, SlotsOrOptionsOutOfRange, WrongLength, LoadsOrFinenessOutOfRange, ReactiveExceedsActive, TrailingBytes, TooManyCells, WorkTooSmall, BufferTooSmall, BudgetExceeded, ForeignSheet, WrongPriceCount, WrongNames, NamedLoadStands, NoPlan, TooManyBooks, OutputTooLong, TooCoarse, SlotsOrFinenessDiffer, TooManyLoads, LimitSumTooLarge}
-use Rattle.model.specs.declared.Finding.{Finding}
-use Rattle.model.specs.declared.Finding.TheVariants.{Passed, Refused}
+use Rattle.std.specs.Prelude.{Ok, Err}
 use Rattle.model.specs.Lists.{Every}
-use Rattle.model.specs.Refusals.{Result, refused, done, Rule, ◌⇒◌, first, checked, and_then, number_of}
+use Rattle.model.specs.Refusals.{Finding, Result, refused, done, Rule, ◌⇒◌, first, checked, and_then, number_of}
 
 -- ---- results
 
@@ -27,9 +26,9 @@ module _ {A : Type 0} where
   pub done-same : (x y : A) → Path (Result A) (done x) (done y) → x ≡ y
   done-same x y e = cc
 
-  pub checked-done : (number : ℕ) (f : Finding) (x : Result A) (y : A) → checked number f x ≡ done y → (f ≡ Passed) × (x ≡ done y)
-  checked-done number Passed x y e = (refl, e)
-  checked-done number (Refused r) x y e = absurd (refused-done r number y e)
+  pub checked-done : (number : ℕ) (f : Finding) (x : Result A) (y : A) → checked number f x ≡ done y → (f ≡ Ok tt) × (x ≡ done y)
+  checked-done number (Ok tt) x y e = (refl, e)
+  checked-done number (Err r) x y e = absurd (refused-done r number y e)
 
 module _ {A B : Type 0} where
   pub then_done : (x : Result A) (f : A → Result B) (y : B) → and_then x f ≡ done y → (a : A) × (x ≡ done a) × (f a ≡ done y)
@@ -43,28 +42,28 @@ abbrev pub NoneApplies : List Rule → Type 0
 NoneApplies rs = Every (λ r. r.applies ≡ false) rs
 
 IsPassed : Finding → Type 0
-IsPassed Passed = Unit {0}
-IsPassed (Refused r) = ⊥
+IsPassed (Ok tt) = Unit {0}
+IsPassed (Err r) = ⊥
 
-refused_passed : (r : Refusal) → Path Finding (Refused r) Passed → ⊥
+refused_passed : (r : Refusal) → Path Finding (Err r) (Ok tt) → ⊥
 unfolding IsPassed
 refused_passed r e = subst IsPassed (sym e) tt
 
-refused-same : (r s : Refusal) → Path Finding (Refused r) (Refused s) → r ≡ s
+refused-same : (r s : Refusal) → Path Finding (Err r) (Err s) → r ≡ s
 refused-same r s e = cc
 
-pub first_passed : (rs : List Rule) → first rs ≡ Passed → NoneApplies rs
+pub first_passed : (rs : List Rule) → first rs ≡ Ok tt → NoneApplies rs
 unfolding first
 first_passed [] e = tt
 first_passed (r ∷ rs) e = go r.applies refl e (first_passed rs)
   where
-    go : (t : Bool) → r.applies ≡ t → cond t (Refused r.refusal) (first rs) ≡ Passed
-        → (first rs ≡ Passed → NoneApplies rs) → (r.applies ≡ false) × NoneApplies rs
+    go : (t : Bool) → r.applies ≡ t → cond t (Err r.refusal) (first rs) ≡ Ok tt
+        → (first rs ≡ Ok tt → NoneApplies rs) → (r.applies ≡ false) × NoneApplies rs
     go true q e rest = absurd (refused_passed r.refusal e)
     go false q e rest = (q, rest e)
 
 -- a row that applies decides, and one that does not leaves it to the rest
-pub first_here : (r : Refusal) (rs : List Rule) (t : Bool) → t ≡ true → first ((t ⇒ r) ∷ rs) ≡ Refused r
+pub first_here : (r : Refusal) (rs : List Rule) (t : Bool) → t ≡ true → first ((t ⇒ r) ∷ rs) ≡ Err r
 unfolding first
 first_here r rs t e = rw e
 
@@ -72,14 +71,14 @@ pub first_next : (r : Refusal) (rs : List Rule) (t : Bool) → t ≡ false → f
 unfolding first
 first_next r rs t e = rw e
 
-pub first_last : (r : Refusal) (t : Bool) → t ≡ false → first ((t ⇒ r) ∷ []) ≡ Passed
+pub first_last : (r : Refusal) (t : Bool) → t ≡ false → first ((t ⇒ r) ∷ []) ≡ Ok tt
 unfolding first
 first_last r t e = rw e
 
-pub first-none : (rs : List Rule) → NoneApplies rs → first rs ≡ Passed
+pub first-none : (rs : List Rule) → NoneApplies rs → first rs ≡ Ok tt
 unfolding first
 first-none [] h = refl
-first-none (r ∷ rs) h = ap (λ t. cond t (Refused r.refusal) (first rs)) h.0 ∙ first-none rs h.1
+first-none (r ∷ rs) h = ap (λ t. cond t (Err r.refusal) (first rs)) h.0 ∙ first-none rs h.1
 
 -- ---- numbers
 
@@ -114,12 +113,12 @@ module _ (n : ℕ) where
   abbrev pub RulesMost : List Rule → Type 0
   RulesMost rs = Every (λ x. number_of x.refusal ≤ n) rs
 
-  pub first_most : (rs : List Rule) (r : Refusal) → RulesMost rs → first rs ≡ Refused r → number_of r ≤ n
+  pub first_most : (rs : List Rule) (r : Refusal) → RulesMost rs → first rs ≡ Err r → number_of r ≤ n
   unfolding first
   first_most [] r h e = absurd (refused_passed r (sym e))
   first_most (x ∷ rs) r h e = go x.applies e (first_most rs r h.1)
     where
-      go : (t : Bool) → cond t (Refused x.refusal) (first rs) ≡ Refused r → (first rs ≡ Refused r → number_of r ≤ n) → number_of r ≤ n
+      go : (t : Bool) → cond t (Err x.refusal) (first rs) ≡ Err r → (first rs ≡ Err r → number_of r ≤ n) → number_of r ≤ n
       go true q rest = subst (λ y. number_of y ≤ n) (refused-same x.refusal r q) h.0
       go false q rest = rest q
 
@@ -133,9 +132,9 @@ module _ (n m : ℕ) where
     pub checked-refusal : (line : ℕ) (rs : List Rule) (x : Result A) → line ≤ m → RulesMost n rs → RefusalMost x → RefusalMost (checked line (first rs) x)
     checked-refusal line rs x l h k = go (first rs) (first_most n rs)
       where
-        go : (f : Finding) → ((r : Refusal) → RulesMost n rs → f ≡ Refused r → number_of r ≤ n) → RefusalMost (checked line f x)
-        go Passed q = k
-        go (Refused r) q = (q r h refl, l)
+        go : (f : Finding) → ((r : Refusal) → RulesMost n rs → f ≡ Err r → number_of r ≤ n) → RefusalMost (checked line f x)
+        go (Ok tt) q = k
+        go (Err r) q = (q r h refl, l)
 
   module _ {A B : Type 0} where
     pub then_refusal : (x : Result A) (f : A → Result B) → RefusalMost x → ((a : A) → RefusalMost (f a)) → RefusalMost (and_then x f)

@@ -13,9 +13,8 @@ use borrow.Author.Tests.{le-ltb, ltb-false}
 use Rattle.model.specs.declared.Answer.{Answer}
 use Rattle.model.specs.declared.Refusal.{Refusal}
 use Rattle.model.specs.declared.Refusal.TheVariants.{BudgetExceeded}
-use Rattle.model.specs.declared.Finding.{Finding}
-use Rattle.model.specs.declared.Finding.TheVariants.{Passed, Refused}
-use Rattle.model.specs.Refusals.{Result, refused, done, ◌⇒◌, first, checked, and_then, number_of}
+use Rattle.std.specs.Prelude.{Ok, Err}
+use Rattle.model.specs.Refusals.{Finding, Result, refused, done, ◌⇒◌, first, checked, and_then, number_of}
 use Rattle.model.specs.Bounds.{most_cells}
 use Rattle.model.specs.Book.{Problem, read_book}
 use Rattle.model.specs.Choice.{Choice, IsChoice}
@@ -89,7 +88,7 @@ module _ (p : Problem → Option Choice) where
     unfolding fitting_book plan_sheet size_rules first
     only_with n = at_book (read_book book) refl (book_bounded book) n
       where
-        at_budget : (b : Problem) → read_book book ≡ done b → first (size_rules b words room) ≡ Passed → (t : Bool) → ltb b.budget (trials b) ≡ t
+        at_budget : (b : Problem) → read_book book ≡ done b → first (size_rules b words room) ≡ Ok tt → (t : Bool) → ltb b.budget (trials b) ≡ t
             → Past (answer_of (checked 0 (first ((t ⇒ BudgetExceeded) ∷ [])) (planned b (p b)))).number
             → (b : Problem) × Past12 book words room b
         at_budget b e f true q n = not_past BudgetExceeded (omega arith) n
@@ -107,8 +106,8 @@ module _ (p : Problem → Option Choice) where
 
         at_size : (b : Problem) → read_book book ≡ done b → (f : Finding) → first (size_rules b words room) ≡ f
             → Past (answer_of (and_then (checked 0 f (done b)) (plan_sheet p))).number → (b : Problem) × Past12 book words room b
-        at_size b e (Refused r) q n = not_past r (first_most 12 (size_rules b words room) r (size_rules_most b) q) n
-        at_size b e Passed q n = at_budget b e q (ltb b.budget (trials b)) refl n
+        at_size b e (Err r) q n = not_past r (first_most 12 (size_rules b words room) r (size_rules_most b) q) n
+        at_size b e (Ok tt) q n = at_budget b e q (ltb b.budget (trials b)) refl n
 
         at_book : (x : Result Problem) → read_book book ≡ x → RefusalMost 8 257 x → Past (answer_of (and_then (and_then x (fitting words room)) (plan_sheet p))).number
             → (b : Problem) × Past12 book words room b

@@ -11,7 +11,7 @@ use lib.Dec.{eqb}
 use lib.ListN.{length, length-append, get_or, drop}
 use borrow.Author.Tests.{not-false}
 use Rattle.model.specs.declared.Refusal.TheVariants.{ForeignSheet}
-use Rattle.model.specs.declared.Finding.TheVariants.{Passed}
+use Rattle.std.specs.Prelude.{Ok}
 use Rattle.model.specs.Lists.{Every, same_lists}
 use Rattle.model.specs.Frames.{digits, field}
 use Rattle.model.specs.Refusals.{Result, done, first, checked, and_then}
@@ -151,7 +151,7 @@ module _ (sheet : List ℕ) (b : Problem) where
           → (s : SheetOf b sheet) × (s.choice ≡ c) × (s.trials ≡ trials_on sheet)
       go none p q = absurd (refused-done ForeignSheet 0 c q)
       go (some d) p q =
-          let k : (first (foreign_rules b sheet d (trials_on sheet)) ≡ Passed) × (Path (Result Choice) (done d) (done c))
+          let k : (first (foreign_rules b sheet d (trials_on sheet)) ≡ Ok tt) × (Path (Result Choice) (done d) (done c))
           = checked-done 0 (first (foreign_rules b sheet d (trials_on sheet))) (done d) c q in (
             record {
               choice = d;

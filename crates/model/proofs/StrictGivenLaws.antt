@@ -14,9 +14,8 @@ use borrow.Author.Tests.{eq-eqb, ne_eqb}
 use Rattle.model.specs.declared.Answer.{Answer}
 use Rattle.model.specs.declared.Refusal.{Refusal}
 use Rattle.model.specs.declared.Refusal.TheVariants.{BudgetExceeded, TooCoarse}
-use Rattle.model.specs.declared.Finding.{Finding}
-use Rattle.model.specs.declared.Finding.TheVariants.{Passed, Refused}
-use Rattle.model.specs.Refusals.{Result, refused, done, ◌⇒◌, first, checked, and_then}
+use Rattle.std.specs.Prelude.{Ok, Err}
+use Rattle.model.specs.Refusals.{Finding, Result, refused, done, ◌⇒◌, first, checked, and_then}
 use Rattle.model.specs.Book.{Problem, read_book}
 use Rattle.model.specs.Choice.{Choice, IsChoice, worth_of}
 use Rattle.model.specs.Grid.{plan}
@@ -169,8 +168,8 @@ same_result p q book words room b e s =
     result f x = and_then (and_then x (fitting words room)) (plan_sheet f)
 
     go : (f : Finding) → and_then (checked 0 f (done b)) (plan_sheet p) ≡ and_then (checked 0 f (done b)) (plan_sheet q)
-    go (Refused r) = refl
-    go Passed = ap (λ m. checked 0 (first ((ltb b.budget (trials b) ⇒ BudgetExceeded) ∷ [])) (planned b m)) s
+    go (Err r) = refl
+    go (Ok tt) = ap (λ m. checked 0 (first ((ltb b.budget (trials b) ⇒ BudgetExceeded) ∷ [])) (planned b m)) s
 
 pub same-sheet : SameSheet
 unfolding planner_result

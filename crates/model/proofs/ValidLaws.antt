@@ -10,7 +10,7 @@ use lib.Dec.{ltb}
 use lib.IntN.{nat_abs}
 use lib.ListN.{length, get_or}
 use borrow.Author.Tests.{lt-ltb, ltb-true, ltb-false, not-false}
-use Rattle.model.specs.declared.Finding.TheVariants.{Passed}
+use Rattle.std.specs.Prelude.{Ok}
 use Rattle.model.specs.Lists.{within, upto_from, upto, keep_if, any, is_empty, Every}
 use Rattle.model.specs.Bounds.{most_slots, most_loads, most_fineness, most_ratio, most_limit, most_sheet}
 use Rattle.model.specs.Frames.{field, line_length, line_of, after_line}
@@ -158,7 +158,7 @@ unfolding read_loads
 loads_read t r left number bytes loads e =
     let rest : Result (List Settings) = read_loads t r left (suc number) (after_line bytes) in
     let more : List Settings → Result (List Settings) = λ ls. done (settings t (line_of bytes) ∷ ls) in
-    let c : (first (line_rule bytes ∷ load_rules t r (line_of bytes)) ≡ Passed) × (and_then rest more ≡ done loads)
+    let c : (first (line_rule bytes ∷ load_rules t r (line_of bytes)) ≡ Ok tt) × (and_then rest more ≡ done loads)
     = checked-done number (first (line_rule bytes ∷ load_rules t r (line_of bytes))) (and_then rest more) loads e in
     let d : (ls : List Settings) × (rest ≡ done ls) × (more ls ≡ done loads) = then_done rest more loads c.1 in
     let none : NoneApplies (line_rule bytes ∷ load_rules t r (line_of bytes)) = first_passed (line_rule bytes ∷ load_rules t r (line_of bytes)) c.0 in
@@ -189,7 +189,7 @@ empty-is (b ∷ bs) e = absurd (false≢true (sym e))
 pub loads-none : (t r number : ℕ) (bytes : List ℕ) (loads : List Settings) → read_loads t r 0 number bytes ≡ done loads → ([] ≡ bytes) × ([] ≡ loads)
 unfolding read_loads
 loads-none t r number bytes loads e =
-    let c : (first (end_rules bytes) ≡ Passed) × (Path (Result (List Settings)) (done []) (done loads)) = checked-done number (first (end_rules bytes)) (done []) loads e in
+    let c : (first (end_rules bytes) ≡ Ok tt) × (Path (Result (List Settings)) (done []) (done loads)) = checked-done number (first (end_rules bytes)) (done []) loads e in
     (empty-is bytes (first_passed (end_rules bytes) c.0).0, done-same [] loads c.1)
 
 pub loads-valid : (t r left number : ℕ) (bytes : List ℕ) (loads : List Settings) → read_loads t r left number bytes ≡ done loads → ValidLoads left t r loads
@@ -236,7 +236,7 @@ book_read bytes b e =
     let line : List ℕ = line_of bytes in
     let rest : Result (List Settings) = read_loads (slot_count line) (ratio_in line) (load_count line) 2 (after_line bytes) in
     let whole : List Settings → Result Problem = λ ls. done (problem line ls) in
-    let c : (first (line_rule bytes ∷ header_rules line) ≡ Passed) × (and_then rest whole ≡ done b)
+    let c : (first (line_rule bytes ∷ header_rules line) ≡ Ok tt) × (and_then rest whole ≡ done b)
     = checked-done 1 (first (line_rule bytes ∷ header_rules line)) (and_then rest whole) b e in
     let d : (ls : List Settings) × (rest ≡ done ls) × (whole ls ≡ done b) = then_done rest whole b c.1 in
     let none : NoneApplies (line_rule bytes ∷ header_rules line) = first_passed (line_rule bytes ∷ header_rules line) c.0 in

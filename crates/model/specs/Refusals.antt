@@ -1,9 +1,8 @@
 -- Refusals, their numbers, and "The first that applies is given" (document 01, "Refusals by number"; from 14 on document 02).
-use Rattle.std.specs.Prelude.{ℕ, Bool, cond, List, [], ◌∷◌}
+use Rattle.std.specs.Prelude.{ℕ, Bool, cond, List, [], ◌∷◌, Ok, Err, ⊤}
+use Rattle.std.specs.Prelude as std
 use Rattle.model.specs.declared.Refusal.{Refusal}
 use Rattle.model.specs.declared.Refusal.TheVariants.{Unterminated, NotHex, WrongKind, SlotsOrOptionsOutOfRange, WrongLength, LoadsOrFinenessOutOfRange, ReactiveExceedsActive, TrailingBytes, TooManyCells, WorkTooSmall, BufferTooSmall, BudgetExceeded, ForeignSheet, WrongPriceCount, WrongNames, NamedLoadStands, NoPlan, TooManyBooks, OutputTooLong, TooCoarse, SlotsOrFinenessDiffer, TooManyLoads, LimitSumTooLarge}
-use Rattle.model.specs.declared.Finding.{Finding}
-use Rattle.model.specs.declared.Finding.TheVariants.{Passed, Refused}
 
 -- the number; document 01's word, or document 02's request, stands beside it
 abbrev pub number_of : Refusal → ℕ
@@ -40,10 +39,14 @@ infix 20 ◌⇒◌
 abbrev pub ◌⇒◌ : Bool → Refusal → Rule
 b ⇒ r = record { applies = b; refusal = r }
 
+-- what the table says: none applies, or the first that does
+abbrev pub Finding : Type 0
+Finding = std.Result ⊤ Refusal
+
 -- "The first that applies is given, and none that doesn't apply"
 unfoldable pub first : List Rule → Finding
-first [] = Passed
-first (r ∷ rs) = cond r.applies (Refused r.refusal) (first rs)
+first [] = Ok tt
+first (r ∷ rs) = cond r.applies (Err r.refusal) (first rs)
 
 -- a result, or a refusal with the number of its line
 pub data Result (A : Type 0) : Type 0 where
@@ -53,8 +56,8 @@ pub data Result (A : Type 0) : Type 0 where
 module _ {A : Type 0} where
   -- a refusal that was found on a line, or else the result
   abbrev pub checked : ℕ → Finding → Result A → Result A
-  checked number Passed x = x
-  checked number (Refused r) x = refused r number
+  checked number (Ok tt) x = x
+  checked number (Err r) x = refused r number
 
 module _ {A B : Type 0} where
   -- go on with a result

@@ -1,15 +1,15 @@
--- What the values of the declared types Load, Book and Reading hold (src/lib.rt).
-use Rattle.std.specs.Prelude.{ℕ, suc, ◌+◌, ◌-◌, ◌*◌, ◌/◌, ◌%◌, ◌<◌, ◌≤◌, ◌≡◌, List, [], map, ℤ, pos, negsuc, length, get_or, take, replicate}
+-- What the values of the declared types Load and Book hold (src/lib.rt).
+use Rattle.std.specs.Prelude.{ℕ, suc, ◌+◌, ◌-◌, ◌*◌, ◌/◌, ◌%◌, ◌<◌, ◌≤◌, ◌≡◌, List, [], map, ℤ, pos, negsuc, length, get_or, take, replicate, Ok, Err}
+use Rattle.std.specs.Prelude as std
 use Rattle.std.proofs.Math.IntN.{sub_ℕ}
 use Rattle.model.specs.declared.Book.{Book}
 use Rattle.model.specs.declared.Load.{Load}
-use Rattle.model.specs.declared.Reading.{Reading}
+use Rattle.model.specs.declared.Refused.{Refused}
 use Rattle.model.specs.Lists.{upto_from, upto}
 use Rattle.model.specs.Bounds.{most_slots, most_loads, most_settings, most_powers}
 use Rattle.model.specs.Refusals.{Result, refused, done}
 use Rattle.model.specs.Book.{Power, Setting, Settings, Problem}
 use Rattle.model.specs.Choice.{Choice, IsChoice, code_of, decode, setting_of, least_of, power_in}
-use Rattle.model.specs.Answers.{bytes_only, refusal_answer, answer_of}
 use Rattle.model.specs.Valid.{ValidBook}
 
 -- Q + 32,768, which is not negative for a Q of 16 bits
@@ -59,10 +59,10 @@ unfoldable pub fresh_book : Book
 fresh_book =
     record { slots = 0; count = 0; fineness = 0; ratio = 0; budget = 0; limits = replicate most_slots 0; loads = replicate most_loads (load_value []) }
 
--- what the book reader answers: it writes no bytes and plans nothing; the book is a fresh one with a refusal
-abbrev pub reading_of : Result Problem → Reading
-reading_of (refused r line) = record { answer = refusal_answer r line; book = fresh_book }
-reading_of (done b) = record { answer = answer_of (done (bytes_only [])); book = book_value b }
+-- what the book reader gives: the value that holds the book, or the refusal and its line
+abbrev pub reading_of : Result Problem → std.Result Book Refused
+reading_of (refused r line) = Err (record { refusal = r; line = line })
+reading_of (done b) = Ok (book_value b)
 
 -- a value that holds a valid book
 pub record Held (v : Book) : Type 0 where

@@ -1,15 +1,15 @@
 // The declared types of the load planner. What a value of each says is defined in specs/.
 #![tactic(auto)]
 
-ghost use Rattle.std.specs.Prelude.{◌≡◌, ◌+◌, ◌-◌, []};
+ghost use Rattle.std.specs.Prelude.{◌≡◌, []};
 ghost use Rattle.model.specs.Refusals.{number_of};
 ghost use Rattle.model.specs.Answers.{success_answer, refusal_answer};
 ghost use Rattle.model.specs.Values.{load_value, fresh_book};
 
-// Why a call gives no result; specs/Refusals.antt has the number of each, and document 01's word or document 02's request.
+// Why a call gives no result, with its number; specs/Refusals.antt has document 01's word or document 02's request for each.
 #[derive(Clone, Copy)]
 pub enum Refusal {
-    Unterminated,
+    Unterminated = 1,
     NotHex,
     WrongKind,
     SlotsOrOptionsOutOfRange,
@@ -34,11 +34,11 @@ pub enum Refusal {
     LimitSumTooLarge,
 }
 
-// What the table of refusals says: none applies, or the first that does.
+// A refusal, and the number of the line that it was found on; 0 where it is of no line.
 #[derive(Clone, Copy)]
-pub enum Finding {
-    Passed,
-    Refused(Refusal),
+pub struct Refused {
+    pub refusal: Refusal,
+    pub line: u64,
 }
 
 // What a public call answers. Success has number 0 and line 0.
@@ -79,7 +79,7 @@ pub struct OrderAnswer {
 
 // A load: it has `settings` settings, with the numbers from `least` on; standing is number 0, the options are 1 and up. Setting c has
 // worths[c] and, in slot s, the active power actives[4 c + s] and the reactive power reactives[4 c + s] - 32,768. Where `least` is 1,
-// the places of setting 0 hold no worth and no power.
+// the places of setting 0 hold no worth and no power. Arrays with counts, as there is no heap; the powers in two, each of which `sums::shifted` takes.
 #[derive(Clone, Copy)]
 pub struct Load {
     pub settings: usize,
@@ -89,7 +89,8 @@ pub struct Load {
     pub least: usize,
 }
 
-// A book that was read: the header's numbers and limits, and the loads in book order.
+// A book that was read: the header's numbers and limits, and the loads in book order. That it is valid is a clause, `Held`, and no invariant: `reading_of`
+// gives a book for every Problem, valid or not.
 #[derive(Clone, Copy)]
 pub struct Book {
     pub slots: usize,
@@ -99,13 +100,6 @@ pub struct Book {
     pub budget: u64,
     pub limits: [u64; Book::SLOTS],
     pub loads: [Load; Book::LOADS],
-}
-
-// What the book reader answers; the book is a fresh one where the answer is a refusal.
-#[derive(Clone, Copy)]
-pub struct Reading {
-    pub answer: Answer,
-    pub book: Book,
 }
 
 impl Load {
@@ -170,30 +164,16 @@ impl Refusal {
     fn number(self) -> u64
         ensures { result ≡ number_of self }
     {
-        match self {
-            Refusal::Unterminated => 1,
-            Refusal::NotHex => 2,
-            Refusal::WrongKind => 3,
-            Refusal::SlotsOrOptionsOutOfRange => 4,
-            Refusal::WrongLength => 5,
-            Refusal::LoadsOrFinenessOutOfRange => 6,
-            Refusal::ReactiveExceedsActive => 7,
-            Refusal::TrailingBytes => 8,
-            Refusal::TooManyCells => 9,
-            Refusal::WorkTooSmall => 10,
-            Refusal::BufferTooSmall => 11,
-            Refusal::BudgetExceeded => 12,
-            Refusal::ForeignSheet => 13,
-            Refusal::WrongPriceCount => 14,
-            Refusal::WrongNames => 15,
-            Refusal::NamedLoadStands => 16,
-            Refusal::NoPlan => 17,
-            Refusal::TooManyBooks => 18,
-            Refusal::OutputTooLong => 19,
-            Refusal::TooCoarse => 20,
-            Refusal::SlotsOrFinenessDiffer => 21,
-            Refusal::TooManyLoads => 22,
-            Refusal::LimitSumTooLarge => 23,
+        self as u64
+    }
+
+    // This refusal, found on the line of this number.
+    pub fn on_line(self, line: u64) -> Refused
+        ensures { result ≡ record { refusal = self; line = line } }
+    {
+        Refused {
+            refusal: self,
+            line,
         }
     }
 }
@@ -225,12 +205,10 @@ impl Answer {
     }
 }
 
-// How far two numbers lie apart: |Q| where Q and 0 are raised alike.
-pub fn distance(a: u64, b: u64) -> u64
-    ensures { result ≡ (a - b) + (b - a) }
-{
-    if a < b {
-        return b - a;
+impl From<Refused> for Answer {
+    ghost from_gives = { λ x a. a ≡ refusal_answer x.refusal x.line };
+
+    fn from(x: Refused) -> Answer {
+        Answer::refusal(x.refusal, x.line)
     }
-    a - b
 }

@@ -176,15 +176,15 @@ module _ (x : Load) (h : LoadHeld x) where
 
       -- the numbers of setting c in slot t
       pub digits_at : (v : Grid) (s : Slot) (b : ℕ) → SlotIs s (entry_at v t) → s.place ≡ t
-          → (b ≡ raised (floor_div (lowered (get_or x.reactives (4 * c + t) 0)) (get_or v.steps t 0)))
-          → Digits s (setting_of h.settings c) (entry_at v t) (get_or x.actives (4 * c + t) 0 / get_or v.steps t 0) b
+          → (b ≡ raised (floor_div (lowered (get_or x.reactives (4 * c + t) 0)) (entry_at v t).step))
+          → Digits s (setting_of h.settings c) (entry_at v t) (get_or x.actives (4 * c + t) 0 / (entry_at v t).step) b
       digits_at v s b e place_is f =
           let z = setting_of h.settings c in
           record {
             slot_is = e;
             active_is = ap₂ (λ m n. m / n) load_p e.step_is ∙ ap (λ i. (power_in i z).p / s.step) (sym place_is);
             reactive_is = f
-                ∙ ap (λ q. raised (floor_div q (get_or v.steps t 0))) (ap lowered load_q ∙ raised_back (power_in t z).q (load_setting.reactive t))
+                ∙ ap (λ q. raised (floor_div q (entry_at v t).step)) (ap lowered load_q ∙ raised_back (power_in t z).q (load_setting.reactive t))
                 ∙ ap₂ (λ i n. raised (floor_div (power_in i z).q n)) (sym place_is) e.step_is;
           }
 

@@ -9,7 +9,7 @@ ghost use Rattle.model.specs.Rounding.{floor_by_sum};
 ghost use Rattle.grid.specs.Geometry.{Laid};
 ghost use Rattle.moves.specs.Moves.{moves_of, MoveIs, LoadIs, LoadHeld};
 
-use grid::Grid;
+use grid::{Grid, SlotGrid};
 use model::{Book, Load};
 use stretch::{LoadMoves, SettingMove};
 
@@ -34,21 +34,22 @@ fn move_of(load: Load, c: usize, unit: u64, grid: Grid) -> SettingMove
     let mut back: usize = 0;
     let mut up: usize = 0;
     let mut down: usize = 0;
-    let mut t = grid.slots;
-    while 0 < t {
-        t -= 1;
+    for t in (0..grid.slots).rev() {
         let at = Book::SLOTS * c + t;
-        let step = grid.steps[t];
-        let top = grid.tops[t];
-        let wide = grid.widths[t];
+        let SlotGrid {
+            step,
+            top,
+            width,
+            ..
+        } = grid.sizes[t];
         let p = load.actives[at];
         let q = load.reactives[at];
         let a = (p / step) as usize;
         let b = grid_value(q, step) as usize;
         active[t] = a;
         back = back * top + a;
-        up = up * wide + b;
-        down = down * wide + 32768;
+        up = up * width + b;
+        down = down * width + 32768;
     }
     let gain = load.worths[c];
     let digit = c as u64 * unit;
@@ -85,10 +86,8 @@ fn moves_of(load: Load, unit: u64, grid: Grid) -> LoadMoves
     let settings = load.settings;
     let still = no_move();
     let mut moves = [still; Load::SETTINGS];
-    let mut i: usize = 0;
-    while i < settings {
+    for i in 0..settings {
         moves[i] = move_of(load, least + i, unit, grid);
-        i += 1;
     }
     LoadMoves {
         count: settings,
@@ -110,12 +109,10 @@ pub fn loads_of(book: Book, grid: Grid) -> [LoadMoves; Book::LOADS]
     };
     let mut moves = [none; Book::LOADS];
     let mut unit: u64 = 1;
-    let mut k: usize = 0;
-    while k < loads {
+    for k in 0..loads {
         let load = book.loads[k];
         moves[k] = moves_of(load, unit, grid);
-        unit = unit * 4;
-        k += 1;
+        unit *= 4;
     }
     moves
 }

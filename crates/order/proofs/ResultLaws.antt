@@ -2,20 +2,19 @@
 -- Assumes nothing.
 use Prim.Native.Nat.{ℕ, ◌<◌, ◌≤◌}
 use mathlib.Core.Path.{◌≡◌, refl, sym, ap, ◌∙◌, subst}
-use mathlib.Core.Bool.{true, false}
+use mathlib.Core.Bool.{Bool, true, false}
 use mathlib.Core.List.{List, [], ◌∷◌}
 use native.Mathlib.Omega.{arith}
 use lib.Dec.{ltb}
 use lib.ListN.{length}
 use borrow.Author.Tests.{lt-ltb, le-ltb}
-use Rattle.model.specs.declared.Finding.{Finding}
-use Rattle.model.specs.declared.Finding.TheVariants.{Passed, Refused}
+use Rattle.std.specs.Prelude.{Ok, Err}
 use Rattle.model.specs.declared.Answer.{Answer}
 use Rattle.model.specs.declared.OrderAnswer.{OrderAnswer}
 use Rattle.model.specs.declared.Refusal.{Refusal}
 use Rattle.model.specs.declared.Refusal.TheVariants.{BufferTooSmall, WrongNames, NamedLoadStands}
 use Rattle.model.specs.Bounds.{most_loads}
-use Rattle.model.specs.Refusals.{Result, refused, done, Rule, ◌⇒◌, first, checked}
+use Rattle.model.specs.Refusals.{Finding, Result, refused, done, Rule, ◌⇒◌, first, checked}
 use Rattle.model.specs.Answers.{bytes_only, success_answer, buffer_after, room_rule}
 use Rattle.model.specs.Order.{Running, starting, start_count, wrong_names, some_blocked, start_order, order_rules, OrderData, order_data, loads_order, WritesOrder}
 use Rattle.model.proofs.RefusalLaws.{first_here, first_next, first_last}
@@ -57,7 +56,7 @@ module _ (count : ℕ) (running planned names : List ℕ) (room : ℕ) (few : co
   after-blocked = room_rule (length (start_order count old new names)) room ∷ []
 
   pub names_refused : wrong_names count names ≡ true → refused WrongNames 0 ≡ result
-  names_refused e = order_at (Refused WrongNames) (first_here WrongNames after_names (wrong_names count names) e)
+  names_refused e = order_at (Err WrongNames) (first_here WrongNames after_names (wrong_names count names) e)
 
   module _ (right : wrong_names count names ≡ false) where
     all_named : length names ≡ count
@@ -73,9 +72,14 @@ module _ (count : ℕ) (running planned names : List ℕ) (room : ℕ) (few : co
     pub blocked_here : some_blocked (length names) (running_in (length names) running) (running_in (length names) planned) names ≡ some_blocked count old new names
     blocked_here = ap (λ n. some_blocked n (running_in n running) (running_in n planned) names) all_named
 
+    -- and so a test of them
+    pub blocked_is : (t : Bool) → t ≡ some_blocked (length names) (running_in (length names) running) (running_in (length names) planned) names
+        → some_blocked count old new names ≡ t
+    blocked_is t e = sym blocked_here ∙ sym e
+
     pub blocked-refused : some_blocked count old new names ≡ true → refused NamedLoadStands 0 ≡ result
     blocked-refused e =
-        order_at (Refused NamedLoadStands)
+        order_at (Err NamedLoadStands)
         (first_next WrongNames after_names (wrong_names count names) right ∙ first_here NamedLoadStands after-blocked (some_blocked count old new names) e)
 
     module _ (free : some_blocked count old new names ≡ false) (starts : ℕ) (counted : starts ≡ start_count count old new) where
@@ -90,7 +94,7 @@ module _ (count : ℕ) (running planned names : List ℕ) (room : ℕ) (few : co
           ∙ e)
 
       pub order-refused : room < starts → refused BufferTooSmall 0 ≡ result
-      order-refused h = last (Refused BufferTooSmall) (first_here BufferTooSmall [] (ltb room (length (start_order count old new names))) (lt-ltb room (length (start_order count old new names)) (omega (arith, long))))
+      order-refused h = last (Err BufferTooSmall) (first_here BufferTooSmall [] (ltb room (length (start_order count old new names))) (lt-ltb room (length (start_order count old new names)) (omega (arith, long))))
 
       pub unrefused : starts ≤ room → Unrefused running planned names starts room
       unrefused h =
@@ -109,7 +113,7 @@ module _ (count : ℕ) (running planned names : List ℕ) (room : ℕ) (few : co
           → WritesOrder result before after (record { answer = a; starts = starts; stops = stops })
       order-written h stops stopped a e before after left =
           order_same
-          (last Passed (first_last BufferTooSmall (ltb room (length (start_order count old new names))) (le-ltb room (length (start_order count old new names)) (omega (arith, long)))))
+          (last (Ok tt) (first_last BufferTooSmall (ltb room (length (start_order count old new names))) (le-ltb room (length (start_order count old new names)) (omega (arith, long)))))
           (record {
             writes = record {
               answers = e ∙ ap (λ n. success_answer n 0 0) (sym long);
@@ -118,3 +122,12 @@ module _ (count : ℕ) (running planned names : List ℕ) (room : ℕ) (few : co
             starts = counted;
             stops = stopped;
           })
+
+  -- past refusals 15 and 16
+  pub record Passed : Type 0 where
+    pub right : wrong_names count names ≡ false
+    pub free : some_blocked count old new names ≡ false
+
+  pub passed : (t u : Bool) → t ≡ wrong_names count names → t ≡ false → u ≡ some_blocked (length names) (running_in (length names) running) (running_in (length names) planned) names
+      → u ≡ false → Passed
+  passed t u e f g h = let right : wrong_names count names ≡ false = sym e ∙ f in record { right = right; free = blocked_is right u g ∙ h }

@@ -2,7 +2,7 @@
 -- Assumes nothing.
 use Prim.Native.Nat.{ℕ, zero, suc, ◌<◌, ◌≤◌}
 use mathlib.Core.Path.{◌≡◌, refl, sym, ap, ap₂, ◌∙◌}
-use mathlib.Core.Bool.{true, false, not, ◌&&◌}
+use mathlib.Core.Bool.{not, ◌&&◌}
 use mathlib.Core.Logic.{◌⊎◌, inl, inr}
 use mathlib.Core.List.{List}
 use native.Mathlib.Omega.{arith}
@@ -19,8 +19,9 @@ use Rattle.model.specs.Valid.{ValidBook}
 use Rattle.model.specs.Values.{Picked, choice_of}
 use Rattle.model.proofs.IntegerLaws.{split}
 use Rattle.sheet.proofs.WriteLaws.{number_at, choice-length}
-use Rattle.chosen.specs.declared.SheetPicks.{SheetPicks}
-use Rattle.chosen.specs.Chosen.{ChoiceOn}
+use Rattle.std.specs.Prelude.{None}
+use Rattle.chosen.specs.declared.OnSheet.{OnSheet}
+use Rattle.chosen.specs.Chosen.{Stated, ChoiceOn}
 use Rattle.chosen.proofs.SheetChoiceLaws.{then_foreign, then_read}
 use Rattle.starts.specs.Places.{running_in}
 use Rattle.starts.proofs.PlaceLaws.{runs_at}
@@ -52,22 +53,21 @@ module _ (b : Problem) (valid : ValidBook b) where
     abbrev from : Choice → Result OrderData
     from old = and_then (sheet_choice planned b) (λ new. loads_order n names room (running_on old) (running_on new))
 
-    module _ (v : SheetPicks) (on : ChoiceOn running b v) where
-      pub running_foreign : v.belongs ≡ false → refused ForeignSheet 0 ≡ result
+    pub running_foreign : ChoiceOn running b None → refused ForeignSheet 0 ≡ result
+    unfolding sheets_order
+    running_foreign foreign = then_foreign running b from foreign
+
+    module _ (v : OnSheet) (on : Stated running b v) where
+      abbrev both : Choice → Result OrderData
+      both new = loads_order n names room (running_on (choice_of b v.picks)) (running_on new)
+
+      pub planned-foreign : ChoiceOn planned b None → refused ForeignSheet 0 ≡ result
       unfolding sheets_order
-      running_foreign q = then_foreign running b v on from q
+      planned-foreign foreign = then_foreign planned b both foreign ∙ then_read running b from v on
 
-      module _ (w : SheetPicks) (next : ChoiceOn planned b w) (belongs : v.belongs ≡ true) where
-        abbrev both : Choice → Result OrderData
-        both new = loads_order n names room (running_on (choice_of b v.picks)) (running_on new)
-
-        pub planned-foreign : w.belongs ≡ false → refused ForeignSheet 0 ≡ result
-        unfolding sheets_order
-        planned-foreign q = then_foreign planned b w next both q ∙ then_read running b v on from belongs
-
-        pub sheets_read : w.belongs ≡ true → loads_order n names room (running_in n v.picks) (running_in n w.picks) ≡ result
-        unfolding sheets_order
-        sheets_read q =
-            ap₂ (loads_order n names room) (running_is v.picks (on.picked belongs)) (running_is w.picks (next.picked q))
-            ∙ then_read planned b w next both q
-            ∙ then_read running b v on from belongs
+      pub sheets_read : (w : OnSheet) → Stated planned b w → loads_order n names room (running_in n v.picks) (running_in n w.picks) ≡ result
+      unfolding sheets_order
+      sheets_read w next =
+          ap₂ (loads_order n names room) (running_is v.picks on.picked) (running_is w.picks next.picked)
+          ∙ then_read planned b both w next
+          ∙ then_read running b from v on

@@ -3,8 +3,8 @@
 use Prim.Native.Nat.{ℕ, zero, suc, ◌+◌, ◌-◌, ◌<◌, ◌≤◌}
 use mathlib.Core.Path.{◌≡◌, refl, sym, ap, ap₂, ◌∙◌, subst}
 use mathlib.Core.Bool.{Bool, true, false, not, ◌&&◌, ◌||◌, false≢true}
-use mathlib.Core.Logic.{◌⊎◌, inl, inr}
 use mathlib.Core.List.{List, [], ◌∷◌, ◌++◌}
+use Rattle.std.specs.Prelude.{Option, None, Some, IsSome}
 use native.Mathlib.Nat.{le_of_suc-le-suc}
 use native.Mathlib.Numerals.{add-one}
 use native.Mathlib.Omega.{arith}
@@ -17,7 +17,6 @@ use Rattle.model.specs.Lists.{any}
 use Rattle.model.specs.Refusals.{done}
 use Rattle.model.specs.Answers.{bytes_only, buffer_after}
 use Rattle.model.specs.Order.{Running, starts, ready, started_after, start_order}
-use Rattle.model.proofs.IntegerLaws.{split}
 use Rattle.model.proofs.ListLaws.{both_true, or_false, or_true}
 use Rattle.model.proofs.StartLaws.{is_left, listed_other, listed_last, Next, next_taken, Run, next_found, run_after}
 use Rattle.hexadecimal.specs.Written.{written}
@@ -91,38 +90,38 @@ module _ (running planned names : List ℕ) where
       may-is k l = ap₂ ◌&&◌ (left_is k l) (ready-is k l)
 
       -- the load that is found is the one that a step takes
-      found_next : (k : ℕ) → Found on planned names k → k < length names → Next n old new names started (suc k)
-      found_next k f l =
-          let both = both_true (is_left old new started (suc k)) (ready old names started (suc k)) (sym (may-is k l) ∙ f.may l) in
-          record { low = omega arith; high = omega arith; is_left_lem = both.0; may = both.1; lower = lower }
+      found_next : (k : ℕ) → Found on planned names (Some k) → Next n old new names started (suc k)
+      found_next k f =
+          let both = both_true (is_left old new started (suc k)) (ready old names started (suc k)) (sym (may-is k f.inside) ∙ f.may) in
+          record { low = omega arith; high = omega (arith, f.inside); is_left_lem = both.0; may = both.1; lower = lower }
         where
           lower : (j : ℕ) → 1 ≤ j → j < suc k → is_left old new started j ≡ true → ready old names started j ≡ false
           lower zero a b w = absurd (omega arith)
           lower (suc j) a b w =
-              sym (ap (λ u. u && ready old names started (suc j)) w) ∙ sym (may-is j (omega arith)) ∙ f.before j (le_of_suc-le-suc b)
+              sym (ap (λ u. u && ready old names started (suc j)) w) ∙ sym (may-is j (omega (arith, f.inside))) ∙ f.before j (le_of_suc-le-suc b)
 
       module _ (more : i < count) where
         run : Run n old new names i started
         run = run_after n old new names can.right can.free i (omega (arith, can.counted))
 
         -- and one is found
-        pub found_inside : (k : ℕ) → Found on planned names k → k < length names
-        found_inside k f = go (split k (length names)) (next_found n old new names can.right can.free i started run (omega (arith, can.counted)))
+        pub found_some : (r : Option ℕ) → Found on planned names r → IsSome r
+        found_some (Some k) f = refl
+        found_some None f = go (next_found n old new names can.right can.free i started run (omega (arith, can.counted)))
           where
-            go : (k < length names) ⊎ (length names ≤ k) → (j : ℕ) × Next n old new names started j → k < length names
-            go (inl l) next = l
-            go (inr l) (zero, next) = absurd (omega (arith, next.low))
-            go (inr l) (suc j, next) =
+            go : (j : ℕ) × Next n old new names started j → IsSome {T = ℕ} None
+            go (zero, next) = absurd (omega (arith, next.low))
+            go (suc j, next) =
                 let here : j < length names = omega (arith, next.high) in
-                absurd (false≢true (sym (f.before j (omega arith)) ∙ may-is j here ∙ ap₂ ◌&&◌ next.is_left_lem next.may))
+                absurd (false≢true (sym (f j here) ∙ may-is j here ∙ ap₂ ◌&&◌ next.is_left_lem next.may))
 
         -- a turn more
-        module _ (k : ℕ) (f : Found on planned names k) where
+        module _ (k : ℕ) (f : Found on planned names (Some k)) where
           inside : k < length names
-          inside = found_inside k f
+          inside = f.inside
 
           next : Next n old new names started (suc k)
-          next = found_next k f inside
+          next = found_next k f
 
           taken : after (suc i) ≡ started ++ suc k ∷ []
           unfolding started_after

@@ -37,12 +37,10 @@ fn write_order(
     ensures { order.new ≡ buffer_after (done (bytes_only (start_order (length names.now) (running_in (length names.now) running) (running_in (length names.now) planned) names.now))) order.old }
 {
     let mut on = running;
-    let mut i: usize = 0;
-    while i < starts {
-        let k = starts::next_start(on, planned, names);
+    for i in 0..starts {
+        let k = starts::next_start(on, planned, names).unwrap();
         on[k] = planned[k];
         order[i] = (k + 1) as u8;
-        i += 1;
     }
 }
 
@@ -88,14 +86,12 @@ fn order_for(
     requires { Held book }
     ensures { WritesOrder (sheets_order running.now planned.now names.now (length order.old) (problem_of book)) order.old order.new result }
 {
-    let old = chosen::choice_on(book, running);
-    if !old.belongs {
+    let Some(old) = chosen::choice_on(book, running) else {
         return refused(Refusal::ForeignSheet);
-    }
-    let new = chosen::choice_on(book, planned);
-    if !new.belongs {
+    };
+    let Some(new) = chosen::choice_on(book, planned) else {
         return refused(Refusal::ForeignSheet);
-    }
+    };
     let old = old.picks;
     let new = new.picks;
     order_of(book.count, old, new, names, order)
@@ -112,14 +108,12 @@ pub fn order(
     ensures result { WritesOrder (order_result book.now running.now planned.now names.now (length order.old)) order.old order.new result }
     ensures kept { result.answer.number ≡ 0 → OrderKept book.now running.now planned.now names.now order.new result }
 {
-    let reading = book::read_book(book);
-    let answer = reading.answer;
-    if answer.number != 0 {
-        return OrderAnswer {
-            answer,
+    match book::read_book(book) {
+        Ok(read) => order_for(read, running, planned, names, order),
+        Err(refused) => OrderAnswer {
+            answer: Answer::from(refused),
             starts: 0,
             stops: 0,
-        };
+        },
     }
-    order_for(reading.book, running, planned, names, order)
 }

@@ -105,7 +105,7 @@ module _ {lows highs : List ℕ} (grid : Grid) (row : ℕ) (load : LoadMoves) (s
   beside_span ws cur col k n = offers_none ws lows highs grid cur load row col (λ m h o. let i = q.each m h col k o in n i.0 i.1)
 
   pub row_empty : (ws : List ℕ) (cur next : ℕ) {asked : Bool} → span.high ≤ span.low
-      → RowMade ws ws lows highs grid cur next load row asked (record { low = 0; high = 0; count = 0 })
+      → RowMade ws ws lows highs grid cur next load row asked (record { stretch = record { low = 0; high = 0 }; count = 0 })
   row_empty ws cur next h = record {
     same_length = refl;
     low_fits = omega arith;
@@ -151,7 +151,7 @@ module _ {lows highs : List ℕ} (grid : Grid) (row : ℕ) (load : LoadMoves) (s
 
         pub row_made : {n : ℕ} {asked : Bool} → LoadRoom ws lows highs grid cur load
             → (asked ≡ true → n ≡ count_upto (span.high - span.low) (reached ws₂ (next + row * grid.width + span.low))) → n ≤ span.high - span.low
-            → RowMade ws ws₂ lows highs grid cur next load row asked (record { low = span.low; high = span.high; count = n })
+            → RowMade ws ws₂ lows highs grid cur next load row asked (record { stretch = span; count = n })
         row_made {n} room counted few = record {
           same_length = r.same_length ∙ f.same_length;
           low_fits = q.end.0;
@@ -225,31 +225,31 @@ module _ {ws ws' lows highs lows' highs' : List ℕ} (grid : Grid) (cur next row
 
     -- an earlier row, and this one
     earlier : (i col : ℕ) → i < row → col < grid.width
-        → held ws'' (set lows' row m.low) (set highs' row m.high) next grid.width i col ≡ held ws' lows' highs' next grid.width i col
+        → held ws'' (set lows' row m.stretch.low) (set highs' row m.stretch.high) next grid.width i col ≡ held ws' lows' highs' next grid.width i col
     unfolding held held_in
     earlier i col h k =
         rw (
-          get_or-set_other lows' row i m.low 0 (omega arith),
-          get_or-set_other highs' row i m.high 0 (omega arith),
+          get_or-set_other lows' row i m.stretch.low 0 (omega arith),
+          get_or-set_other highs' row i m.stretch.high 0 (omega arith),
           q.outside (next + i * grid.width + col) (λ j o e. omega (arith, row_end grid.width h)),
         )
 
-    latest : (col : ℕ) → held ws'' (set lows' row m.low) (set highs' row m.high) next grid.width row col
-        ≡ held_in ws'' (next + row * grid.width) m.low m.high col
+    latest : (col : ℕ) → held ws'' (set lows' row m.stretch.low) (set highs' row m.stretch.high) next grid.width row col
+        ≡ held_in ws'' (next + row * grid.width) m.stretch.low m.stretch.high col
     unfolding held
-    latest col = rw (get_or-set_same lows' row m.low 0 a, get_or-set_same highs' row m.high 0 b)
+    latest col = rw (get_or-set_same lows' row m.stretch.low 0 a, get_or-set_same highs' row m.stretch.high 0 b)
 
-    pub layer-more : LayerMade ws ws'' lows highs (set lows' row m.low) (set highs' row m.high) grid cur next load (row + 1)
+    pub layer-more : LayerMade ws ws'' lows highs (set lows' row m.stretch.low) (set highs' row m.stretch.high) grid cur next load (row + 1)
     layer-more = record {
       same_length = q.same_length ∙ r.same_length;
-      low_length = length-set lows' row m.low ∙ r.low_length;
-      high_length = length-set highs' row m.high ∙ r.high_length;
-      low_fits = below_more (λ i. get_or (set lows' row m.low) i 0 ≤ grid.width) row
-          (λ i h. rw (get_or-set_other lows' row i m.low 0 (omega arith)) (r.low_fits i h)) (rw (get_or-set_same lows' row m.low 0 a) q.low_fits);
-      high_fits = below_more (λ i. get_or (set highs' row m.high) i 0 ≤ grid.width) row
-          (λ i h. rw (get_or-set_other highs' row i m.high 0 (omega arith)) (r.high_fits i h)) (rw (get_or-set_same highs' row m.high 0 b) q.high_fits);
+      low_length = length-set lows' row m.stretch.low ∙ r.low_length;
+      high_length = length-set highs' row m.stretch.high ∙ r.high_length;
+      low_fits = below_more (λ i. get_or (set lows' row m.stretch.low) i 0 ≤ grid.width) row
+          (λ i h. rw (get_or-set_other lows' row i m.stretch.low 0 (omega arith)) (r.low_fits i h)) (rw (get_or-set_same lows' row m.stretch.low 0 a) q.low_fits);
+      high_fits = below_more (λ i. get_or (set highs' row m.stretch.high) i 0 ≤ grid.width) row
+          (λ i h. rw (get_or-set_other highs' row i m.stretch.high 0 (omega arith)) (r.high_fits i h)) (rw (get_or-set_same highs' row m.stretch.high 0 b) q.high_fits);
       inside = λ i col h k. below_more
-          (λ i. held ws'' (set lows' row m.low) (set highs' row m.high) next grid.width i col ≡ join_upto load.count (offer_of ws lows highs grid cur load i col)) row
+          (λ i. held ws'' (set lows' row m.stretch.low) (set highs' row m.stretch.high) next grid.width i col ≡ join_upto load.count (offer_of ws lows highs grid cur load i col)) row
           (λ i o. earlier i col o k ∙ r.inside i col o k)
           (latest col ∙ q.inside col k ∙ join-same load.count (offer_of ws' lows highs grid cur load row col) (offer_of ws lows highs grid cur load row col)
           (λ n o. offer_same lows highs grid g passed load row col n l))
@@ -259,14 +259,14 @@ module _ {ws ws' lows highs lows' highs' : List ℕ} (grid : Grid) (cur next row
     }
 
     pub layer-count : {n : ℕ} → asked ≡ true → n ≡ count_rows row grid.width (held ws' lows' highs' next grid.width)
-        → n + m.count ≡ count_rows (row + 1) grid.width (held ws'' (set lows' row m.low) (set highs' row m.high) next grid.width)
+        → n + m.count ≡ count_rows (row + 1) grid.width (held ws'' (set lows' row m.stretch.low) (set highs' row m.stretch.high) next grid.width)
     unfolding count_rows
     layer-count t e =
         ap₂ ◌+◌
-        (e ∙ sym (rows_count row grid.width (held ws'' (set lows' row m.low) (set highs' row m.high) next grid.width) (held ws' lows' highs' next grid.width) earlier))
-        (q.counted t ∙ sym (count_same grid.width (λ col. is_some (held ws'' (set lows' row m.low) (set highs' row m.high) next grid.width row col))
-        (λ col. is_some (held_in ws'' (next + row * grid.width) m.low m.high col)) (λ col k. ap is_some (latest col))))
-        ∙ ap (λ n. count_rows n grid.width (held ws'' (set lows' row m.low) (set highs' row m.high) next grid.width)) (sym (add-one row))
+        (e ∙ sym (rows_count row grid.width (held ws'' (set lows' row m.stretch.low) (set highs' row m.stretch.high) next grid.width) (held ws' lows' highs' next grid.width) earlier))
+        (q.counted t ∙ sym (count_same grid.width (λ col. is_some (held ws'' (set lows' row m.stretch.low) (set highs' row m.stretch.high) next grid.width row col))
+        (λ col. is_some (held_in ws'' (next + row * grid.width) m.stretch.low m.stretch.high col)) (λ col k. ap is_some (latest col))))
+        ∙ ap (λ n. count_rows n grid.width (held ws'' (set lows' row m.stretch.low) (set highs' row m.stretch.high) next grid.width)) (sym (add-one row))
 
 pub layer-all : {ws ws' lows highs lows' highs' : List ℕ} {grid : Grid} {cur next : ℕ} {load : LoadMoves} {n rows : ℕ} → n ≤ rows → rows ≤ n
     → LayerMade ws ws' lows highs lows' highs' grid cur next load n → LayerMade ws ws' lows highs lows' highs' grid cur next load rows

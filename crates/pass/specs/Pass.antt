@@ -12,12 +12,12 @@ use Rattle.pass.specs.declared.Made.{Made}
 -- a row of the next layer made from the current one: its stretch, what it holds, and how many cells it holds where that was asked for
 pub record RowMade (ws ws' lows highs : List ℕ) (grid : Grid) (cur next : ℕ) (load : LoadMoves) (row : ℕ) (asked : Bool) (r : Made) : Type 0 where
   pub same_length : length ws' ≡ length ws
-  pub low_fits : r.low ≤ grid.width
-  pub high_fits : r.high ≤ grid.width
-  pub inside : (col : ℕ) → col < grid.width → held_in ws' (next + row * grid.width) r.low r.high col
+  pub low_fits : r.stretch.low ≤ grid.width
+  pub high_fits : r.stretch.high ≤ grid.width
+  pub inside : (col : ℕ) → col < grid.width → held_in ws' (next + row * grid.width) r.stretch.low r.stretch.high col
       ≡ join_upto load.count (offer_of ws lows highs grid cur load row col)
   pub outside : (x : ℕ) → ((col : ℕ) → col < grid.width → x ≡ next + row * grid.width + col → ⊥) → cell_at ws' x ≡ cell_at ws x
-  pub counted : asked ≡ true → r.count ≡ count_upto grid.width (λ col. is_some (held_in ws' (next + row * grid.width) r.low r.high col))
+  pub counted : asked ≡ true → r.count ≡ count_upto grid.width (λ col. is_some (held_in ws' (next + row * grid.width) r.stretch.low r.stretch.high col))
   pub count_fits : r.count ≤ grid.width
 
 -- how many cells of the first n rows are held

@@ -11,52 +11,45 @@ ghost use Rattle.rows.specs.Row.{held, LoadRoom};
 ghost use Rattle.pass.specs.Pass.{RowMade, LayerMade, count_rows};
 
 use grid::Grid;
-use stretch::LoadMoves;
+use stretch::{LoadMoves, Stretch, Stretches};
 
 // A row that was made: its stretch, and how many of its cells hold something, where that was asked for.
 #[derive(Clone, Copy)]
 pub struct Made {
-    pub low: usize,
-    pub high: usize,
+    pub stretch: Stretch,
     pub count: usize,
 }
 
 // Makes one row of the next layer, and counts its reached cells where that is asked for.
 fn load_row(
     work: &mut [u64],
-    grid: Grid,
+    grid: &Grid,
     cur: usize,
     next: usize,
-    lows: &[usize; Grid::ROWS],
-    highs: &[usize; Grid::ROWS],
+    layer: &Stretches,
     row: usize,
     load: LoadMoves,
     asked: bool,
 ) -> Made
-    requires grid_fits { GridFits grid }
-    requires rows { Rows work.old cur next grid.cells }
-    requires stretches_fit { StretchesFit lows.now highs.now grid }
-    requires row_lt_rows { row < grid.rows }
-    requires load_fits { LoadFits grid load }
-    requires load_room { LoadRoom work.old lows.now highs.now grid cur load }
-    ensures { RowMade work.old work.new lows.now highs.now grid cur next load row asked result }
+    requires grid_fits { GridFits grid.now }
+    requires rows { Rows work.old cur next grid.now.cells }
+    requires stretches_fit { StretchesFit layer.now.lows layer.now.highs grid.now }
+    requires row_lt_rows { row < grid.now.rows }
+    requires load_fits { LoadFits grid.now load }
+    requires load_room { LoadRoom work.old layer.now.lows layer.now.highs grid.now cur load }
+    ensures { RowMade work.old work.new layer.now.lows layer.now.highs grid.now cur next load row asked result }
 {
-    let s = stretch::span_of(grid, lows, highs, row, load);
+    let s = stretch::span_of(grid, layer, row, load);
     if s.low < s.high {
         let at = next + row * grid.width + s.low;
         let len = s.high - s.low;
-        let first = rows::open_row(work, grid, cur, next, lows, highs, row, load, s, at);
-        rows::settings_row(work, grid, cur, next, lows, highs, row, load, first);
+        let first = rows::open_row(work, grid, cur, next, layer, row, load, s, at);
+        rows::settings_row(work, grid, cur, next, layer, row, load, first);
         let count = table::count_if(work, at, len, asked);
-        return Made {
-            low: s.low,
-            high: s.high,
-            count,
-        };
+        return Made { stretch: s, count };
     }
     Made {
-        low: 0,
-        high: 0,
+        stretch: Stretch { low: 0, high: 0 },
         count: 0,
     }
 }
@@ -65,39 +58,35 @@ fn load_row(
 // can be reached.
 pub fn load_pass(
     work: &mut [u64],
-    grid: Grid,
+    grid: &Grid,
     cur: usize,
     next: usize,
-    lows: &[usize; Grid::ROWS],
-    highs: &[usize; Grid::ROWS],
-    newlows: &mut [usize; Grid::ROWS],
-    newhighs: &mut [usize; Grid::ROWS],
+    layer: &Stretches,
+    fresh: &mut Stretches,
     load: LoadMoves,
     used: usize,
     rows: usize,
     asked: bool,
 ) -> usize
-    requires grid_fits { GridFits grid }
-    requires rows { Rows work.old cur next grid.cells }
-    requires stretches_fit { StretchesFit lows.now highs.now grid }
-    requires load_fits { LoadFits grid load }
-    requires load_room { LoadRoom work.old lows.now highs.now grid cur load }
-    requires newlows_len { (length newlows.old ≡ most_rows) × (length newhighs.old ≡ most_rows) }
-    requires empty_from { EmptyFrom lows.now highs.now used }
-    requires empty_from_2 { EmptyFrom newlows.old newhighs.old rows }
-    requires reaches { Reaches grid load used rows }
-    ensures empty_from_3 { EmptyFrom newlows.new newhighs.new rows }
-    ensures value { asked ≡ true → result ≡ count_rows grid.rows grid.width (held work.new newlows.new newhighs.new next grid.width) }
-    ensures layer_made { LayerMade work.old work.new lows.now highs.now newlows.new newhighs.new grid cur next load grid.rows }
+    requires grid_fits { GridFits grid.now }
+    requires rows { Rows work.old cur next grid.now.cells }
+    requires stretches_fit { StretchesFit layer.now.lows layer.now.highs grid.now }
+    requires load_fits { LoadFits grid.now load }
+    requires load_room { LoadRoom work.old layer.now.lows layer.now.highs grid.now cur load }
+    requires fresh_len { (length fresh.old.lows ≡ most_rows) × (length fresh.old.highs ≡ most_rows) }
+    requires empty_from { EmptyFrom layer.now.lows layer.now.highs used }
+    requires empty_from_2 { EmptyFrom fresh.old.lows fresh.old.highs rows }
+    requires reaches { Reaches grid.now load used rows }
+    ensures empty_from_3 { EmptyFrom fresh.new.lows fresh.new.highs rows }
+    ensures value { asked ≡ true → result ≡ count_rows grid.now.rows grid.now.width (held work.new fresh.new.lows fresh.new.highs next grid.now.width) }
+    ensures layer_made { LayerMade work.old work.new layer.now.lows layer.now.highs fresh.new.lows fresh.new.highs grid.now cur next load grid.now.rows }
 {
     let mut reached: usize = 0;
-    let mut row: usize = 0;
-    while row < rows {
-        let made = load_row(work, grid, cur, next, lows, highs, row, load, asked);
-        newlows[row] = made.low;
-        newhighs[row] = made.high;
+    for row in 0..rows {
+        let made = load_row(work, grid, cur, next, layer, row, load, asked);
+        fresh.lows[row] = made.stretch.low;
+        fresh.highs[row] = made.stretch.high;
         reached += made.count;
-        row += 1;
     }
     reached
 }

@@ -3,26 +3,19 @@
 use mathlib.Core.Path.{◌≡◌, refl, sym, ap, ◌∙◌}
 use mathlib.Core.Bool.{true, false}
 use mathlib.Core.List.{List, []}
-use mathlib.Core.Option.{Option, none, some}
-use Prim.Native.Nat.{ℕ, ◌<◌, ◌≤◌}
-use lib.Dec.{ltb}
-use lib.ListN.{length}
-use borrow.Author.Tests.{lt-ltb, le-ltb}
-use Rattle.model.specs.declared.Refusal.{Refusal}
-use Rattle.model.specs.declared.Answer.{Answer}
+use Prim.Native.Nat.{ℕ}
+use Rattle.std.specs.Prelude.{Ok, Result as Outcome}
 use Rattle.model.specs.declared.Book.{Book}
-use Rattle.model.specs.declared.Refusal.TheVariants.{BudgetExceeded, NoPlan, TooCoarse}
+use Rattle.model.specs.declared.Refused.{Refused}
+use Rattle.model.specs.declared.Refusal.TheVariants.{TooCoarse}
 use Rattle.model.specs.Refusals.{Result, refused, done, first, checked, and_then}
 use Rattle.model.specs.Book.{Problem, read_book}
-use Rattle.model.specs.Choice.{Choice}
-use Rattle.model.specs.Trials.{trials, WordsKept}
-use Rattle.model.specs.Sheet.{sheet_of}
-use Rattle.model.specs.Calls.{fitting, fitting_book, planned, plan_sheet, planner_result, free_for, free_words}
-use Rattle.model.specs.Answers.{Output, refusal_answer, Writes}
+use Rattle.model.specs.Calls.{size_rules, fitting, fitting_book, plan_sheet, planner_result, free_for, free_words}
+use Rattle.model.specs.Answers.{Output}
 use Rattle.model.specs.Strict.{fine, strict_book, strict_result, strict_free}
-use Rattle.model.specs.Values.{problem_of}
+use Rattle.model.specs.Values.{problem_of, reading_of}
 use Rattle.model.proofs.RefusalLaws.{first_here, first_last}
-use Rattle.model.proofs.AnswerLaws.{refused-writes}
+use Rattle.model.proofs.ReadingLaws.{reading_done}
 use Rattle.scan.specs.declared.Test.{Test}
 use Rattle.scan.specs.declared.Test.TheVariants.{Admission, TrueSums}
 use Rattle.found.specs.Found.{plan_by}
@@ -68,29 +61,19 @@ module _ (test : Test) (v : Book) where
   unfolding problem_of
   fine_enough e = ap (λ f. checked 0 f (done (problem_of v))) (first_last TooCoarse (coarse test v.fineness) e)
 
--- ---- of a book that was read
+-- the book is fine enough: what is made of it is the call's result, and so are the words
+module _ (words room : ℕ) (test : Test) (book : List ℕ) (v : Book) (is : Path (Outcome Book Refused) (Ok v) (reading_of (read_book book))) (fine : coarse test v.fineness ≡ false) where
+  pub fitted_result : fitted_plan test words room (problem_of v) ≡ result_by test book words room
+  fitted_result =
+      sym (ap (λ x. and_then x (fitted_plan test words room)) (fine_enough test v fine))
+      ∙ reading_done book v is (fine_plan words room test)
+      ∙ sym (result_is words room test book)
 
--- p says which choice is the plan of a book
-module _ (p : Problem → Option Choice) (b : Problem) where
-  pub plan-over : b.budget < trials b → plan_sheet p b ≡ refused BudgetExceeded 0
-  unfolding plan_sheet
-  plan-over h = ap (λ f. checked 0 f (planned b (p b))) (first_here BudgetExceeded [] (ltb b.budget (trials b)) (lt-ltb _ _ h))
+  pub fitted-free : free_for (fitting words room (problem_of v)) ≡ free_by test book words room
+  fitted-free =
+      ap free_for (sym (ap (λ x. and_then x (fitting words room)) (fine_enough test v fine)) ∙ reading_done book v is (fine_fitting words room test))
+      ∙ sym (free-is words room test book)
 
-  -- within the budget the plan decides
-  plan_due : (m : Option Choice) → trials b ≤ b.budget → p b ≡ m → planned b m ≡ plan_sheet p b
-  unfolding plan_sheet
-  plan_due m h e =
-      ap (planned b) (sym e) ∙ sym (ap (λ f. checked 0 f (planned b (p b))) (first_last BudgetExceeded (ltb b.budget (trials b)) (le-ltb _ _ h)))
-
-  pub plan-missing : trials b ≤ b.budget → p b ≡ none → plan_sheet p b ≡ refused NoPlan 0
-  plan-missing h e = sym (plan_due none h e)
-
-  pub plan-within : (c : Choice) (t : ℕ) → trials b ≤ b.budget → p b ≡ some c → t ≡ trials b → done (sheet_of b c t) ≡ plan_sheet p b
-  plan-within c t h e q = ap (λ n. done (sheet_of b c n)) q ∙ plan_due (some c) h e
-
--- a refusal of the sizes: the answer, the buffer as before, and no word changed
-pub size-refused : (test : Test) (words : List ℕ) (before : List ℕ) (b : Problem) (r : Refusal) (a : Answer) → a ≡ refusal_answer r 0
-    → fitting (length words) (length before) b ≡ refused r 0
-    → Writes (fitted_plan test (length words) (length before) b) before before a × WordsKept (free_for (fitting (length words) (length before) b)) words words
-size-refused test words before b r a e q =
-    (refused-writes _ r 0 before a e (ap (λ x. and_then x (plan_sheet (plan_by test))) q), record { same_length = refl; kept = refl })
+-- past refusals 9 to 11 the plan decides
+pub fitting-plan : (test : Test) (words room : ℕ) (b : Problem) → first (size_rules b words room) ≡ Ok tt → fitted_plan test words room b ≡ plan_sheet (plan_by test) b
+fitting-plan test words room b e = ap (λ f. and_then (checked 0 f (done b)) (plan_sheet (plan_by test))) e

@@ -11,44 +11,23 @@ ghost use Rattle.model.specs.Demand.{Answered, Demand3};
 ghost use Rattle.model.specs.Values.{Held, problem_of};
 ghost use Rattle.grid.specs.Geometry.{GridIs};
 ghost use Rattle.found.specs.Found.{plan_by};
-ghost use Rattle.planner.specs.Planner.{fitted_plan, coarse, result_by, free_by};
+ghost use Rattle.planner.specs.Planner.{fitted_plan, answered, coarse, result_by, free_by};
 
 use grid::Grid;
-use model::{Answer, Book, Finding, Refusal};
+use model::{Answer, Book, Refusal};
 use scan::Test;
 
-// The planner for a book that fits: refusal 12 or 17, or the sheet.
-fn plan_for(book: Book, grid: Grid, work: &mut [u64], sheet: &mut [u8], test: Test) -> Answer
-    requires held { Held book }
-    requires grid_is { GridIs (slots_of (problem_of book)) grid }
-    requires book_in_bounds { needed_words (problem_of book) ≤ length work.old }
-    requires book_in_bounds_2 { sheet_length (problem_of book) ≤ length sheet.old }
-    ensures result { Writes (plan_sheet (plan_by test) (problem_of book)) sheet.old sheet.new result }
-    ensures words { WordsKept (needed_words (problem_of book)) work.old work.new }
-{
-    let found = found::search_for(book, grid, work, test);
-    if !found.within {
-        return Answer::refusal(Refusal::BudgetExceeded, 0);
-    }
-    if !found.planned {
-        return Answer::refusal(Refusal::NoPlan, 0);
-    }
-    let picks = sums::picks_of(found.code, book.count);
-    sheet::write_sheet(book, picks, found.trials, sheet)
-}
-
-// The planner for a book that was read: refusals 9 to 12 and 17, or the sheet.
-fn plan_book(book: Book, work: &mut [u64], sheet: &mut [u8], test: Test) -> Answer
+// The planner for a book that was read: the sheet's answer, or refusals 9 to 12 and 17.
+fn plan_book(book: Book, work: &mut [u64], sheet: &mut [u8], test: Test) -> Result<Answer, Refusal>
     requires { Held book }
-    ensures result { Writes (fitted_plan test (length work.old) (length sheet.old) (problem_of book)) sheet.old sheet.new result }
+    ensures result { Writes (fitted_plan test (length work.old) (length sheet.old) (problem_of book)) sheet.old sheet.new (answered result) }
     ensures words { WordsKept (free_for (fitting (length work.old) (length sheet.old) (problem_of book))) work.old work.new }
 {
     let grid = grid::grid_of(book);
-    let finding = fits::size_finding(book, grid.cells, work.len(), sheet.len());
-    if let Finding::Refused(r) = finding {
-        return Answer::refusal(r, 0);
-    }
-    plan_for(book, grid, work, sheet, test)
+    fits::size_finding(book, grid.cells, work.len(), sheet.len())?;
+    let plan = found::search_for(book, grid, work, test)?;
+    let picks = sums::picks_of(plan.code, book.count);
+    Ok(sheet::write_sheet(book, picks, plan.trials, sheet))
 }
 
 // Whether refusal 20 applies to a book of this fineness.
@@ -66,16 +45,17 @@ pub fn plan_by(book: &[u8], work: &mut [u64], sheet: &mut [u8], test: Test) -> A
     ensures result { Writes (result_by test book.now (length work.old) (length sheet.old)) sheet.old sheet.new result }
     ensures words { WordsKept (free_by test book.now (length work.old) (length sheet.old)) work.old work.new }
 {
-    let reading = book::read_book(book);
-    let answer = reading.answer;
-    if answer.number != 0 {
-        return answer;
-    }
-    let read = reading.book;
+    let read = match book::read_book(book) {
+        Ok(read) => read,
+        Err(refused) => return Answer::from(refused),
+    };
     if too_coarse(test, read.fineness) {
         return Answer::refusal(Refusal::TooCoarse, 0);
     }
-    plan_book(read, work, sheet, test)
+    match plan_book(read, work, sheet, test) {
+        Ok(answer) => answer,
+        Err(refusal) => Answer::refusal(refusal, 0),
+    }
 }
 
 // The planner: the sheet of the plan, or the first refusal of 1 to 12 and 17.

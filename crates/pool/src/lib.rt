@@ -1,7 +1,7 @@
 // Two mills on one transformer: the book that pools two, or the first refusal of the one, of the other with its lines counted on, 21 to 23, or 11.
 #![tactic(auto)]
 
-ghost use Rattle.std.specs.Prelude.{◌≡◌, map, ℕ, ◌+◌, ◌*◌, ◌^◌, ◌<◌, ◌≤◌, max, ltb, length, get_or, take};
+ghost use Rattle.std.specs.Prelude.{◌≡◌, map, ℕ, ◌+◌, ◌*◌, ◌^◌, ◌<◌, ◌≤◌, ltb, length, get_or, take};
 ghost use Rattle.model.specs.Lists.{upto, any};
 ghost use Rattle.model.specs.Bounds.{most_slots, most_limit, most_book};
 ghost use Rattle.model.specs.Refusals.{first, done};
@@ -10,31 +10,16 @@ ghost use Rattle.model.specs.Book.{read_book};
 ghost use Rattle.model.specs.Values.{Held, problem_of};
 ghost use Rattle.model.specs.Pool.{read_both, pair_rules, pooled, header_line, pooled_with, pool_result, Pooled};
 ghost use Rattle.hexadecimal.specs.Written.{written};
-ghost use Rattle.pool.specs.Mills.{later_answer, mills_of};
+ghost use Rattle.pool.specs.Mills.{later_refused, mills_of};
 
-use model::{Answer, Book, Finding, Refusal};
-
-fn larger(x: u64, y: u64) -> u64
-    ensures { result ≡ max x y }
-{
-    if x < y {
-        return y;
-    }
-    x
-}
+use model::{Answer, Book, Refusal, Refused};
 
 // A refusal whose line comes after so many others.
-fn later(answer: Answer, lines: u64) -> Answer
-    requires { lines + answer.line < 2 ^ 64 }
-    ensures { result ≡ later_answer lines answer }
+fn later(x: Refused, lines: u64) -> Refused
+    requires { lines + x.line < 2 ^ 64 }
+    ensures { result ≡ later_refused lines x }
 {
-    Answer {
-        number: answer.number,
-        line: lines + answer.line,
-        bytes: answer.bytes,
-        worth: answer.worth,
-        trials: answer.trials,
-    }
+    x.refusal.on_line(lines + x.line)
 }
 
 // Each slot's two limits, added.
@@ -55,38 +40,31 @@ fn too_large(sums: [u64; Book::SLOTS], slots: usize) -> bool
     requires { slots ≤ most_slots }
     ensures { result ≡ any (ltb most_limit) (map (λ s. get_or sums s 0) (upto slots)) }
 {
-    let mut s = 0;
-    while s < slots {
-        if Book::LIMIT < sums[s] {
-            return true;
-        }
-        s += 1;
-    }
-    false
+    sums[..slots].iter().any(|sum| Book::LIMIT < *sum)
 }
 
 // Refusals 21 to 23, in this order, of two books that were read.
-fn pair_finding(a: Book, b: Book) -> Finding
+fn pair_finding(a: Book, b: Book) -> Result<(), Refusal>
     requires held { Held a }
     requires held_2 { Held b }
     ensures { result ≡ first (pair_rules (mills_of a b)) }
 {
     if a.slots != b.slots {
-        return Finding::Refused(Refusal::SlotsOrFinenessDiffer);
+        return Err(Refusal::SlotsOrFinenessDiffer);
     }
     if a.fineness != b.fineness {
-        return Finding::Refused(Refusal::SlotsOrFinenessDiffer);
+        return Err(Refusal::SlotsOrFinenessDiffer);
     }
     if Book::LOADS < a.count + b.count {
-        return Finding::Refused(Refusal::TooManyLoads);
+        return Err(Refusal::TooManyLoads);
     }
     let limits = a.limits;
     let others = b.limits;
     let sums = limit_sums(limits, others);
     if too_large(sums, a.slots) {
-        return Finding::Refused(Refusal::LimitSumTooLarge);
+        return Err(Refusal::LimitSumTooLarge);
     }
-    Finding::Passed
+    Ok(())
 }
 
 // Writes the header of the book that pools two from the start on.
@@ -98,8 +76,8 @@ fn write_header(buf: &mut [u8], a: Book, b: Book)
 {
     let slots = a.slots as u64;
     let count = (a.count + b.count) as u64;
-    let ratio = larger(a.ratio, b.ratio);
-    let budget = larger(a.budget, b.budget);
+    let ratio = a.ratio.max(b.ratio);
+    let budget = a.budget.max(b.budget);
     let limits = a.limits;
     let others = b.limits;
     let sums = limit_sums(limits, others);
@@ -135,8 +113,7 @@ fn pool_both(a: Book, b: Book, first: &[u8], second: &[u8], pooled: &mut [u8]) -
     requires second_value { read_both first.now second.now ≡ done (mills_of a b) }
     ensures { Writes (pool_result first.now second.now (length pooled.old)) pooled.old pooled.new result }
 {
-    let finding = pair_finding(a, b);
-    if let Finding::Refused(r) = finding {
+    if let Err(r) = pair_finding(a, b) {
         return Answer::refusal(r, 0);
     }
     let lines = hexadecimal::line_length(first) + 1;
@@ -150,12 +127,10 @@ fn pool_with(a: Book, first: &[u8], second: &[u8], pooled: &mut [u8]) -> Answer
     requires first_value { read_book first.now ≡ done (problem_of a) }
     ensures { Writes (pool_result first.now second.now (length pooled.old)) pooled.old pooled.new result }
 {
-    let reading = book::read_book(second);
-    let answer = reading.answer;
-    if answer.number != 0 {
-        return later(answer, a.count as u64 + 1);
+    match book::read_book(second) {
+        Ok(b) => pool_both(a, b, first, second, pooled),
+        Err(refused) => Answer::from(later(refused, a.count as u64 + 1)),
     }
-    pool_both(a, reading.book, first, second, pooled)
 }
 
 // One book for two mills on one transformer.
@@ -163,10 +138,8 @@ pub fn pool(first: &[u8], second: &[u8], pooled: &mut [u8]) -> Answer
     ensures result { Writes (pool_result first.now second.now (length pooled.old)) pooled.old pooled.new result }
     ensures joint { result.number ≡ 0 → Pooled first.now second.now (take result.bytes pooled.new) }
 {
-    let reading = book::read_book(first);
-    let answer = reading.answer;
-    if answer.number != 0 {
-        return answer;
+    match book::read_book(first) {
+        Ok(a) => pool_with(a, first, second, pooled),
+        Err(refused) => Answer::from(refused),
     }
-    pool_with(reading.book, first, second, pooled)
 }

@@ -18,7 +18,8 @@ fn write_refusal(out: &mut [u8], number: u64, line: u64)
     out[8] = 10;
 }
 
-// Makes of the buffer that a call was lent what is printed of its answer, and answers how many bytes that is.
+// Makes of the buffer that a call was lent what is printed of its answer, and answers how many bytes that is. An answer has its number, as C
+// takes it.
 pub fn print_answer(answer: Answer, out: &mut [u8]) -> usize
     requires in_bounds { 9 ≤ length out.old }
     requires bytes_in_bounds { answer.bytes ≤ length out.old }

@@ -13,7 +13,7 @@ const BYTES: usize = 4096;
 
 const WORDS: usize = 6144;
 
-// The first `length` of these bytes are printed. No sheet is longer than the array.
+// The first `length` of these bytes are printed: an array with its length, as there is no heap. No sheet is longer than it.
 #[derive(Clone, Copy)]
 pub struct Printed {
     pub bytes: [u8; Book::SHEET],

@@ -12,11 +12,10 @@ fn read_for(book: Book, sheet: &[u8]) -> SheetAnswer
     requires { Held book }
     ensures { result ≡ sheet_answer_of (sheet_data sheet.now (problem_of book)) }
 {
-    let on = chosen::choice_on(book, sheet);
-    if !on.belongs {
+    let Some(on) = chosen::choice_on(book, sheet) else {
         let answer = Answer::refusal(Refusal::ForeignSheet, 0);
         return SheetAnswer { answer, code: 0 };
-    }
+    };
     let picks = on.picks;
     let worth = sums::worth_of(book, picks);
     let code = sums::code_of(book, picks);
@@ -28,11 +27,11 @@ fn read_for(book: Book, sheet: &[u8]) -> SheetAnswer
 pub fn read_sheet(book: &[u8], sheet: &[u8]) -> SheetAnswer
     ensures { result ≡ sheet_answer_of (reader_result book.now sheet.now) }
 {
-    let reading = book::read_book(book);
-    let answer = reading.answer;
-    if answer.number != 0 {
-        return SheetAnswer { answer, code: 0 };
+    match book::read_book(book) {
+        Ok(read) => read_for(read, sheet),
+        Err(refused) => SheetAnswer {
+            answer: Answer::from(refused),
+            code: 0,
+        },
     }
-    let book = reading.book;
-    read_for(book, sheet)
 }

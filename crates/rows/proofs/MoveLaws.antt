@@ -137,18 +137,23 @@ module _ (lows highs : List ℕ) (grid : Grid) (cur next row : ℕ) (load : Load
     pub settings_rows : Rows ws' cur next grid.cells
     settings_rows = rows_same r.same_length rows
 
-    pub moves_room : LoadRoom ws lows highs grid cur load → first + n < load.count → MoveRoom ws' lows highs grid cur (move_of load (first + n)).gain (move_of load (first + n)).digit
-    moves_room q k = move_room (first + n) k (room_same lows highs grid g kept q)
+    pub moves_room : {m : ℕ} → LoadRoom ws lows highs grid cur load → m < load.count → MoveRoom ws' lows highs grid cur (move_of load m).gain (move_of load m).digit
+    moves_room {m} q k = move_room m k (room_same lows highs grid g kept q)
 
-    pub moves_more : {ws'' : List ℕ} → RowKeys ws' ws'' (next + row * grid.width) grid.width (raised_row ws' lows highs grid cur next (move_of load (first + n)) row)
+    next_setting : {ws'' : List ℕ} → RowKeys ws' ws'' (next + row * grid.width) grid.width (raised_row ws' lows highs grid cur next (move_of load (first + n)) row)
         → RowKeys ws ws'' (next + row * grid.width) grid.width (raised_rows ws lows highs grid cur next load row first (n + 1))
     unfolding raised_row raised_rows raise_upto offer_of
-    moves_more {ws''} q = rw (add-one n) (record {
+    next_setting {ws''} q = rw (add-one n) (record {
       same_length = q.same_length ∙ r.same_length;
       inside = λ col k. q.inside col k
           ∙ ap₂ (λ x y. raise x (shift? (move_of load (first + n)).gain (move_of load (first + n)).digit y)) (r.inside col k) (source-same lows highs grid g kept (move_of load (first + n)) row col l);
       outside = λ x o. q.outside x o ∙ r.outside x o;
     })
+
+    pub moves_more : {ws'' : List ℕ} {m : ℕ} → first + n ≡ m
+        → RowKeys ws' ws'' (next + row * grid.width) grid.width (raised_row ws' lows highs grid cur next (move_of load m) row)
+        → RowKeys ws ws'' (next + row * grid.width) grid.width (raised_rows ws lows highs grid cur next load row first (n + 1))
+    moves_more {ws''} e q = next_setting (subst (λ i. RowKeys ws' ws'' (next + row * grid.width) grid.width (raised_row ws' lows highs grid cur next (move_of load i) row)) (sym e) q)
 
   pub moves_all : {ws ws' : List ℕ} (n count : ℕ) → n ≤ count → count ≤ n
       → RowKeys ws ws' (next + row * grid.width) grid.width (raised_rows ws lows highs grid cur next load row first n)

@@ -12,9 +12,10 @@ ghost use Rattle.scan.specs.Scan.{Better, test_of, passed_in, best_of_layer, Cod
 
 use grid::Grid;
 use model::Book;
+use stretch::Stretches;
 use table::Cell;
 
-// The test that a cell of the last layer must pass.
+// The test that a cell of the last layer must pass: an enum and no closure, as `test_of`, `plan_by` and `result_by` go by it.
 #[derive(Clone, Copy)]
 pub enum Test {
     // The plain planner's: every slot admits the cell's pairs.
@@ -99,42 +100,31 @@ fn scan_row(
         → key_of result ≡ join (key_of first) (join_upto width (passed_in (test_of test (problem_of book)) work.now at low high row)) }
 {
     let mut best = first;
-    let mut col = low;
-    while col < high {
+    for col in low..high {
         let worth = work[2 * (at + col)];
         if best.worth <= worth {
             best = better_at(work, at + col, best, row, col, grid, book, test);
         }
-        col += 1;
     }
     best
 }
 
 // The best cell of the layer at `cur` that passes the test; empty where none does.
-pub fn scan(
-    work: &[u64],
-    grid: Grid,
-    cur: usize,
-    lows: &[usize; Grid::ROWS],
-    highs: &[usize; Grid::ROWS],
-    book: Book,
-    test: Test,
-) -> Cell
+pub fn scan(work: &[u64], grid: Grid, cur: usize, layer: &Stretches, book: Book, test: Test) -> Cell
     requires grid_fits { GridFits grid }
     requires cells_in_bounds { 2 * (cur + grid.cells) ≤ length work.now }
-    requires stretches_fit { StretchesFit lows.now highs.now grid }
+    requires stretches_fit { StretchesFit layer.now.lows layer.now.highs grid }
     requires held { Held book }
     requires grid_is { GridIs (slots_of (problem_of book)) grid }
-    requires layer_coded { LayerCoded (problem_of book) work.now lows.now highs.now grid cur }
-    ensures { key_of result ≡ best_of_layer (test_of test (problem_of book)) work.now lows.now highs.now grid cur }
+    requires layer_coded { LayerCoded (problem_of book) work.now layer.now.lows layer.now.highs grid cur }
+    ensures { key_of result ≡ best_of_layer (test_of test (problem_of book)) work.now layer.now.lows layer.now.highs grid cur }
 {
     let rows = grid.rows;
     let width = grid.width;
     let mut best = Cell { worth: 0, code: 0 };
-    let mut row: usize = 0;
-    while row < rows {
-        let low = lows[row];
-        let high = highs[row];
+    for row in 0..rows {
+        let low = layer.lows[row];
+        let high = layer.highs[row];
         best = scan_row(
             work,
             cur + row * width,
@@ -146,7 +136,6 @@ pub fn scan(
             book,
             test,
         );
-        row += 1;
     }
     best
 }

@@ -11,7 +11,7 @@ use Rattle.model.specs.Choice.{no_setting}
 use Rattle.model.specs.Grid.{Slot}
 use Rattle.model.specs.Valid.{SettingKept}
 use Rattle.grid.specs.declared.Grid.{Grid}
-use Rattle.grid.specs.Geometry.{SlotIs, no_slot, entry_at}
+use Rattle.grid.specs.Geometry.{SlotIs, no_slot, no_sizes, entry_at}
 use Rattle.stretch.specs.declared.LoadMoves.{LoadMoves}
 use Rattle.stretch.specs.declared.SettingMove.{SettingMove}
 use Rattle.stretch.specs.Stretch.{move_of}
@@ -55,10 +55,7 @@ abbrev grid : Grid
 grid =
     record {
       slots = 1;
-      steps = 1 ∷ 0 ∷ 0 ∷ 0 ∷ [];
-      tops = 11 ∷ 0 ∷ 0 ∷ 0 ∷ [];
-      widths = 22 ∷ 0 ∷ 0 ∷ 0 ∷ [];
-      depths = 11 ∷ 0 ∷ 0 ∷ 0 ∷ [];
+      sizes = record { step = 1; top = 11; width = 22; depth = 11 } ∷ no_sizes ∷ no_sizes ∷ no_sizes ∷ [];
       rows = 11;
       width = 22;
       cells = 242;

@@ -28,7 +28,8 @@ use Rattle.model.proofs.RecurrenceLaws.{step}
 use Rattle.model.proofs.IndexLaws.{cells-area}
 use Rattle.model.proofs.RowLaws.{covers_all, covers_le, source_test, source_cell, rows_step, over-upto, cell_bounded, rows_few}
 use Rattle.grid.specs.declared.Grid.{Grid}
-use Rattle.grid.specs.Geometry.{no_slot}
+use Rattle.grid.specs.declared.SlotGrid.{SlotGrid}
+use Rattle.grid.specs.Geometry.{no_slot, no_sizes, entry_at}
 use Rattle.stretch.specs.declared.LoadMoves.{LoadMoves}
 use Rattle.stretch.specs.declared.SettingMove.{SettingMove}
 use Rattle.stretch.specs.Stretch.{covers_from, tried, move_of, GridFits, MoveFits, LoadFits}
@@ -42,17 +43,17 @@ use Rattle.search.specs.Search.{Modelled, LayerIs}
 
 -- ---- the geometry
 
-covers_is : (tops active : List ℕ) (slots : List Slot) (v : Setting) (t row : ℕ)
-    → ((i : ℕ) → i < length slots → get_or tops (t + i) 0 ≡ grid_top (get_or slots i no_slot) + 1) → ActivesAre active t slots v
-    → covers_from tops active t (length slots) row ≡ covers_all slots (setting_grids slots v) row
+covers_is : (sizes : List SlotGrid) (active : List ℕ) (slots : List Slot) (v : Setting) (t row : ℕ)
+    → ((i : ℕ) → i < length slots → (get_or sizes (t + i) no_sizes).top ≡ grid_top (get_or slots i no_slot) + 1) → ActivesAre active t slots v
+    → covers_from sizes active t (length slots) row ≡ covers_all slots (setting_grids slots v) row
 unfolding covers_from
-covers_is tops active [] v t row a b = refl
-covers_is tops active (s ∷ slots) v t row a b =
+covers_is sizes active [] v t row a b = refl
+covers_is sizes active (s ∷ slots) v t row a b =
     let here : t ≡ t + 0 = omega arith in
-    let top : get_or tops t 0 ≡ grid_top s + 1 = ap (λ n. get_or tops n 0) here ∙ a 0 (omega arith) in
+    let top : (get_or sizes t no_sizes).top ≡ grid_top s + 1 = ap (λ n. (get_or sizes n no_sizes).top) here ∙ a 0 (omega arith) in
     ap₂ ◌&&◌ (ap₂ (λ x y. leb x (row % y)) b.0 top)
-    (covers_is tops active slots v (t + 1) (row / get_or tops t 0)
-    (λ i l. let next : t + 1 + i ≡ t + suc i = omega arith in ap (λ n. get_or tops n 0) next ∙ a (suc i) (omega arith)) b.1
+    (covers_is sizes active slots v (t + 1) (row / (get_or sizes t no_sizes).top)
+    (λ i l. let next : t + 1 + i ≡ t + suc i = omega arith in ap (λ n. (get_or sizes n no_sizes).top) next ∙ a (suc i) (omega arith)) b.1
     ∙ ap (λ y. covers_all slots (setting_grids slots v) (row / y)) top)
 
 true_test : (t : Bool) → t ≡ true → T t
@@ -95,8 +96,8 @@ module _ {grid : Grid} {n : ℕ} {moves : List LoadMoves} (m : Modelled grid n m
   tried-is : {k : ℕ} {v : Setting} {mv : SettingMove} → MoveIs m.slots k v mv → (row : ℕ) → tried grid mv row ≡ covers_all m.slots (setting_grids m.slots v) row
   unfolding tried
   tried-is {k} {v} {mv} x row =
-      ap (λ j. covers_from grid.tops mv.active 0 j row) m.grid_is.slots_are
-      ∙ covers_is grid.tops mv.active m.slots v 0 row (λ i l. ap (λ k. get_or grid.tops k 0) (zero-add i) ∙ (m.grid_is.each i l).top_is) x.actives_are
+      ap (λ j. covers_from grid.sizes mv.active 0 j row) m.grid_is.slots_are
+      ∙ covers_is grid.sizes mv.active m.slots v 0 row (λ i l. ap (λ k. (entry_at grid k).top) (zero-add i) ∙ (m.grid_is.each i l).top_is) x.actives_are
 
   move_fits : {k : ℕ} {v : Setting} {mv : SettingMove} → MoveIs m.slots k v mv → MoveFits grid mv
   move_fits {k} {v} x = record {

@@ -9,7 +9,7 @@ ghost use Rattle.search.specs.Search.{first_cell, Modelled, Places, Run, Searche
 
 use grid::Grid;
 use model::Book;
-use stretch::LoadMoves;
+use stretch::{LoadMoves, Stretches};
 use table::Cell;
 
 // The first layer: one choice, of no load, at the cell `origin` of row 0.
@@ -33,8 +33,7 @@ fn tries(reached: usize, count: usize) -> usize
 pub struct Ran {
     pub trials: usize,
     pub cur: usize,
-    pub lows: [usize; Grid::ROWS],
-    pub highs: [usize; Grid::ROWS],
+    pub layer: Stretches,
 }
 
 // The passes of the first n loads over a first layer that is made, as long as the trials are within the budget. No trial depends on what
@@ -45,64 +44,49 @@ fn run_loads(
     n: usize,
     moves: [LoadMoves; Book::LOADS],
     budget: usize,
-    first: [usize; Grid::ROWS],
-    last: [usize; Grid::ROWS],
+    first: Stretches,
 ) -> Ran
     requires cells_in_bounds { 4 * grid.cells ≤ length work.old }
     requires modelled { Modelled grid n moves }
-    requires empty_from { EmptyFrom first last 1 }
-    requires run { (m : Modelled grid n moves) → Run work.old work.old first last grid n moves m 0 0 1 0 }
-    ensures places { Places work.old work.new result.lows result.highs grid result.cur }
-    ensures searched { (m : Modelled grid n moves) → Searched work.new result.lows result.highs grid n moves m budget result.cur result.trials }
+    requires empty_from { EmptyFrom first.lows first.highs 1 }
+    requires run { (m : Modelled grid n moves) → Run work.old work.old first.lows first.highs grid n moves m 0 0 1 0 }
+    ensures places { Places work.old work.new result.layer.lows result.layer.highs grid result.cur }
+    ensures searched { (m : Modelled grid n moves) → Searched work.new result.layer.lows result.layer.highs grid n moves m budget result.cur result.trials }
 {
     let cells = grid.cells;
-    let mut lows = first;
-    let mut highs = last;
-    let mut newlows: [usize; Grid::ROWS] = [0; Grid::ROWS];
-    let mut newhighs: [usize; Grid::ROWS] = [0; Grid::ROWS];
+    let mut layer = first;
+    let mut fresh = Stretches {
+        lows: [0; Grid::ROWS],
+        highs: [0; Grid::ROWS],
+    };
     let mut trials: usize = 0;
     let mut reached: usize = 1;
     let mut cur: usize = 0;
     let mut used: usize = 1;
-    let mut k: usize = 0;
-    while k < n {
+    for k in 0..n {
         let load = moves[k];
         trials += tries(reached, load.count);
         if budget < trials {
-            return Ran {
-                trials,
-                cur,
-                lows,
-                highs,
-            };
+            return Ran { trials, cur, layer };
         }
         let rows = stretch::reach_of(grid, load, used);
         reached = pass::load_pass(
             work,
-            grid,
+            &grid,
             cur,
             cells - cur,
-            &lows,
-            &highs,
-            &mut newlows,
-            &mut newhighs,
+            &layer,
+            &mut fresh,
             load,
             used,
             rows,
             k + 1 < n,
         );
         used = rows;
-        lows = newlows;
-        highs = newhighs;
+        layer = fresh;
         cur = cells - cur;
-        k += 1;
     }
-    Ran {
-        trials,
-        cur,
-        lows,
-        highs,
-    }
+    Ran { trials, cur, layer }
 }
 
 // The search of the first n loads, from nothing.
@@ -116,14 +100,16 @@ pub fn search(
     requires cells_in_bounds { 4 * grid.cells ≤ length work.old }
     requires modelled { Modelled grid n moves }
     ensures work_unchanged { drop (4 * grid.cells) work.new ≡ drop (4 * grid.cells) work.old }
-    ensures places { Places work.old work.new result.lows result.highs grid result.cur }
-    ensures searched { (m : Modelled grid n moves) → Searched work.new result.lows result.highs grid n moves m budget result.cur result.trials }
+    ensures places { Places work.old work.new result.layer.lows result.layer.highs grid result.cur }
+    ensures searched { (m : Modelled grid n moves) → Searched work.new result.layer.lows result.layer.highs grid n moves m budget result.cur result.trials }
 {
     let origin = grid.origin;
-    let mut lows: [usize; Grid::ROWS] = [0; Grid::ROWS];
-    let mut highs: [usize; Grid::ROWS] = [0; Grid::ROWS];
-    lows[0] = origin;
-    highs[0] = origin + 1;
+    let mut first = Stretches {
+        lows: [0; Grid::ROWS],
+        highs: [0; Grid::ROWS],
+    };
+    first.lows[0] = origin;
+    first.highs[0] = origin + 1;
     start(work, origin);
-    run_loads(work, grid, n, moves, budget, lows, highs)
+    run_loads(work, grid, n, moves, budget, first)
 }

@@ -1,3 +1,2 @@
 -- Laws that the functions' proofs and the callers cite.
 pub mod SizeLaws
-pub mod NextLaws

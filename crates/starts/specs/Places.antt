@@ -1,5 +1,5 @@
 -- The loads that run, by the numbers c in an array, and the load that is started next. Load k + 1 is at place k.
-use Rattle.std.specs.Prelude.{ℕ, zero, suc, ◌-◌, ◌<◌, ◌≤◌, ◌≡◌, Bool, true, false, not, ◌&&◌, ◌||◌, List, eqb, ltb, length, get_or}
+use Rattle.std.specs.Prelude.{ℕ, zero, suc, ◌-◌, ◌<◌, ◌≤◌, ◌≡◌, Bool, true, false, not, ◌&&◌, ◌||◌, List, eqb, ltb, length, get_or, Option, None, Some}
 use Rattle.model.specs.Bounds.{most_loads}
 use Rattle.model.specs.Lists.{within}
 use Rattle.model.specs.Order.{Running}
@@ -34,8 +34,13 @@ pub record NamesInside (names : List ℕ) : Type 0 where
   pub few : length names ≤ most_loads
   pub inside : (k : ℕ) → k < length names → get_or names k 0 ≤ length names
 
--- the lowest place of a load that may start; past the last where there is none
-pub record Found (on planned names : List ℕ) (k : ℕ) : Type 0 where
-  pub inside : k ≤ length names
-  pub may : k < length names → may_start_at on planned (get_or names k 0) k ≡ true
+-- the lowest place of a load that may start
+pub record Lowest (on planned names : List ℕ) (k : ℕ) : Type 0 where
+  pub inside : k < length names
+  pub may : may_start_at on planned (get_or names k 0) k ≡ true
   pub before : (j : ℕ) → j < k → may_start_at on planned (get_or names j 0) j ≡ false
+
+-- this place; or there is none
+abbrev pub Found : List ℕ → List ℕ → List ℕ → Option ℕ → Type 0
+Found on planned names None = (j : ℕ) → j < length names → may_start_at on planned (get_or names j 0) j ≡ false
+Found on planned names (Some k) = Lowest on planned names k

@@ -16,9 +16,7 @@ fn running_mask(picks: [usize; Book::LOADS], count: usize) -> u32
     ensures { result ≡ running_mask count (running_in count picks) }
 {
     let mut mask: u32 = 0;
-    let mut k = count;
-    while 0 < k {
-        k -= 1;
+    for k in (0..count).rev() {
         mask = (picks[k] != 0) as u32 + 2 * mask;
     }
     mask
@@ -62,13 +60,10 @@ pub fn wrong_names(names: &[u8], count: usize) -> bool
     if names.len() != count {
         return true;
     }
-    let mut k: usize = 0;
-    while k < names.len() {
-        let name = names[k] as u64;
-        if bad_name(name, k, count) {
+    for (k, name) in names.iter().enumerate() {
+        if bad_name(*name as u64, k, count) {
             return true;
         }
-        k += 1;
     }
     false
 }
@@ -133,29 +128,27 @@ pub fn some_blocked(
     requires { NamesInside names.now }
     ensures { result ≡ some_blocked (length names.now) (running_in (length names.now) running) (running_in (length names.now) planned) names.now }
 {
-    let mut k: usize = 0;
-    while k < names.len() {
-        let name = names[k] as usize;
-        if blocked_at(running, planned, name, k) {
+    for (k, name) in names.iter().enumerate() {
+        if blocked_at(running, planned, *name as usize, k) {
             return true;
         }
-        k += 1;
     }
     false
 }
 
-// The place of the lowest load that may start; the number of loads where there is none.
-pub fn next_start(on: [usize; Book::LOADS], planned: [usize; Book::LOADS], names: &[u8]) -> usize
+// The place of the lowest load that may start, where there is one.
+pub fn next_start(
+    on: [usize; Book::LOADS],
+    planned: [usize; Book::LOADS],
+    names: &[u8],
+) -> Option<usize>
     requires { NamesInside names.now }
     ensures { Found on planned names.now result }
 {
-    let mut k: usize = 0;
-    while k < names.len() {
-        let name = names[k] as usize;
-        if may_start(on, planned, name, k) {
-            return k;
+    for (k, name) in names.iter().enumerate() {
+        if may_start(on, planned, *name as usize, k) {
+            return Some(k);
         }
-        k += 1;
     }
-    k
+    None
 }

@@ -14,25 +14,27 @@ use Rattle.model.specs.Bounds.{most_cells}
 use Rattle.model.proofs.IntegerLaws.{split}
 use Rattle.stretch.specs.declared.SettingMove.{SettingMove}
 use Rattle.grid.specs.declared.Grid.{Grid}
+use Rattle.grid.specs.declared.SlotGrid.{SlotGrid}
+use Rattle.grid.specs.Geometry.{no_sizes}
 use Rattle.stretch.specs.declared.LoadMoves.{LoadMoves}
 use Rattle.stretch.specs.declared.Stretch.{Stretch}
 use Rattle.stretch.specs.Stretch.{covers_from, tried, move_of, GridFits, StretchesFit, MoveFits, Clipped, Offers, Part, Joined, Spans}
 
 -- `covers`: none of the slots passed, a slot that fails, one more passed, all passed
-pub covers_none : (tops active : List ℕ) (slots row : ℕ) → covers_from tops active 0 slots row ≡ covers_from tops active 0 (slots - 0) row
-covers_none tops active slots row = rw sub-zero
+pub covers_none : (sizes : List SlotGrid) (active : List ℕ) (slots row : ℕ) → covers_from sizes active 0 slots row ≡ covers_from sizes active 0 (slots - 0) row
+covers_none sizes active slots row = rw sub-zero
 
-module _ (tops active : List ℕ) (slots t rest : ℕ) {b : Bool} (h : b ≡ covers_from tops active t (slots - t) rest) where
+module _ (sizes : List SlotGrid) (active : List ℕ) (slots t rest : ℕ) {b : Bool} (h : b ≡ covers_from sizes active t (slots - t) rest) where
   step : t < slots
-      → b ≡ (leb (get_or active t 0) (rest % get_or tops t 0) && covers_from tops active (t + 1) (slots - (t + 1)) (rest / get_or tops t 0))
+      → b ≡ (leb (get_or active t 0) (rest % (get_or sizes t no_sizes).top) && covers_from sizes active (t + 1) (slots - (t + 1)) (rest / (get_or sizes t no_sizes).top))
   unfolding covers_from
   step l = let e : slots - t ≡ suc (slots - (t + 1)) = omega arith in rw e at h
 
-  pub covers_less : t < slots → rest % get_or tops t 0 < get_or active t 0 → false ≡ b
-  covers_less l k = sym (step l ∙ simp (lt-leb (get_or active t 0) (rest % get_or tops t 0) k))
+  pub covers_less : t < slots → rest % (get_or sizes t no_sizes).top < get_or active t 0 → false ≡ b
+  covers_less l k = sym (step l ∙ simp (lt-leb (get_or active t 0) (rest % (get_or sizes t no_sizes).top) k))
 
-  pub covers_more : t < slots → get_or active t 0 ≤ rest % get_or tops t 0 → b ≡ covers_from tops active (t + 1) (slots - (t + 1)) (rest / get_or tops t 0)
-  covers_more l k = step l ∙ simp (le-leb (get_or active t 0) (rest % get_or tops t 0) k)
+  pub covers_more : t < slots → get_or active t 0 ≤ rest % (get_or sizes t no_sizes).top → b ≡ covers_from sizes active (t + 1) (slots - (t + 1)) (rest / (get_or sizes t no_sizes).top)
+  covers_more l k = step l ∙ simp (le-leb (get_or active t 0) (rest % (get_or sizes t no_sizes).top) k)
 
   pub covers_all_lem : slots ≤ t → true ≡ b
   unfolding covers_from
@@ -60,7 +62,7 @@ module _ (lows highs : List ℕ) (grid : Grid) (row : ℕ) (mv : SettingMove) wh
       let k : row - mv.back < grid.rows = omega arith in
       omega (arith, s.low_fits (row - mv.back) k, s.high_fits (row - mv.back) k)
 
-  module _ {b : Bool} (e : b ≡ covers_from grid.tops mv.active 0 grid.slots row) where
+  module _ {b : Bool} (e : b ≡ covers_from grid.sizes mv.active 0 grid.slots row) where
     pub part_yes : {r : Stretch} → b ≡ true → Clipped (get_or lows (row - mv.back) 0) (get_or highs (row - mv.back) 0) mv.up mv.down grid.width r
         → Part lows highs grid row mv r
     unfolding tried

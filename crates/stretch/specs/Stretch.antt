@@ -3,21 +3,23 @@ use Rattle.std.specs.Prelude.{ℕ, zero, suc, ◌+◌, ◌-◌, ◌*◌, ◌/◌
 use Rattle.model.specs.Bounds.{most_slots, most_settings, most_cells, most_rows}
 use Rattle.stretch.specs.declared.SettingMove.{SettingMove}
 use Rattle.grid.specs.declared.Grid.{Grid}
+use Rattle.grid.specs.declared.SlotGrid.{SlotGrid}
+use Rattle.grid.specs.Geometry.{no_sizes, entry_at}
 use Rattle.stretch.specs.declared.LoadMoves.{LoadMoves}
 use Rattle.stretch.specs.declared.Stretch.{Stretch}
 
 -- ---- where a setting leads
 
 -- from slot t on, for n slots: the row's active coordinate, the remainder by the slot's count, is at least `active`
-unfoldable pub covers_from : List ℕ → List ℕ → ℕ → ℕ → ℕ → Bool
-covers_from tops active t zero rest = true
-covers_from tops active t (suc n) rest =
-    leb (get_or active t 0) (rest % get_or tops t 0) && covers_from tops active (t + 1) n (rest / get_or tops t 0)
+unfoldable pub covers_from : List SlotGrid → List ℕ → ℕ → ℕ → ℕ → Bool
+covers_from sizes active t zero rest = true
+covers_from sizes active t (suc n) rest =
+    leb (get_or active t 0) (rest % (get_or sizes t no_sizes).top) && covers_from sizes active (t + 1) n (rest / (get_or sizes t no_sizes).top)
 
 -- whether a setting can lead to a row
 unfoldable pub tried : Grid → SettingMove → ℕ → Bool
 unfolding covers_from
-tried grid mv row = covers_from grid.tops mv.active 0 grid.slots row
+tried grid mv row = covers_from grid.sizes mv.active 0 grid.slots row
 
 abbrev pub no_move : SettingMove
 no_move = record { gain = 0; digit = 0; back = 0; up = 0; down = 0; active = [] }
@@ -31,7 +33,7 @@ move_of load n = get_or load.moves n no_move
 -- the slots, the rows and the cells are within their bounds, and the rows and columns make up the cells
 pub record GridFits (grid : Grid) : Type 0 where
   pub slots_fit : grid.slots ≤ most_slots
-  pub tops_fit : (t : ℕ) → t < grid.slots → 0 < get_or grid.tops t 0
+  pub tops_fit : (t : ℕ) → t < grid.slots → 0 < (entry_at grid t).top
   pub area : grid.rows * grid.width ≡ grid.cells
   pub rows_fit : grid.rows ≤ most_rows
   pub width_fits : grid.width ≤ most_cells

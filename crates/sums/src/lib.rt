@@ -9,7 +9,7 @@ ghost use Rattle.sums.specs.Sums.{sums_value, shifted, added, exchanged, CanShif
 
 use model::{Book, Load};
 
-// The sums in each slot: P, and Q + 32,768 for each load.
+// The sums in each slot: P, and Q + 32,768 for each load; in two arrays, as `shifted` serves both.
 #[derive(Clone, Copy)]
 pub struct Sums {
     pub actives: [u64; Book::SLOTS],
@@ -71,10 +71,8 @@ fn shifted(
     ensures { result ≡ shifted sums powers c less from }
 {
     let mut next = sums;
-    let mut s: usize = 0;
-    while s < Book::SLOTS {
+    for s in 0..Book::SLOTS {
         next[s] = sums[s] + powers[Book::SLOTS * c + s] - less[Book::SLOTS * from + s];
-        s += 1;
     }
     next
 }
@@ -86,11 +84,9 @@ pub fn sums_of(book: Book, picks: [usize; Book::LOADS]) -> Sums
     ensures { result ≡ sums_value (choice_of (problem_of book) picks) }
 {
     let mut sums = Sums::none();
-    let mut k: usize = 0;
-    while k < book.count {
+    for k in 0..book.count {
         let load = book.loads[k];
         sums = sums.plus(load, picks[k]);
-        k += 1;
     }
     sums
 }
@@ -101,12 +97,10 @@ pub fn worth_of(book: Book, picks: [usize; Book::LOADS]) -> u64
     ensures { result ≡ worth_of (choice_of (problem_of book) picks) }
 {
     let mut worth: u64 = 0;
-    let mut k: usize = 0;
-    while k < book.count {
+    for k in 0..book.count {
         let load = book.loads[k];
         let c = picks[k];
         worth += load.worths[c];
-        k += 1;
     }
     worth
 }
@@ -118,9 +112,7 @@ pub fn code_of(book: Book, picks: [usize; Book::LOADS]) -> u64
     ensures { result ≡ code_of (choice_of (problem_of book) picks) }
 {
     let mut code: u64 = 0;
-    let mut k = book.count;
-    while 0 < k {
-        k -= 1;
+    for k in (0..book.count).rev() {
         code = picks[k] as u64 + 4 * code;
     }
     code
@@ -133,11 +125,9 @@ pub fn picks_of(code: u64, count: usize) -> [usize; Book::LOADS]
 {
     let mut picks = [0usize; Book::LOADS];
     let mut rest = code;
-    let mut k: usize = 0;
-    while k < count {
+    for k in 0..count {
         picks[k] = (rest % 4) as usize;
         rest = rest / 4;
-        k += 1;
     }
     picks
 }

@@ -14,7 +14,7 @@ use mathlib.Core.Logic.{⊎_elim}
 use Rattle.model.proofs.IntegerLaws.{split}
 use Rattle.model.specs.Cells.{is_some, count_upto}
 use borrow.Author.Count.{below_more}
-use native.Mathlib.Nat.{not-suc-le-zero, le_antisymm}
+use native.Mathlib.Nat.{not-suc-le-zero}
 use Rattle.table.specs.declared.Cell.{Cell}
 use Rattle.table.specs.Table.{cell_at, put_at, key_if, key_of, raised, offered, offered_at, Room, Rows, Roomy, Filled, offered_row, copied_row, carried_row, no_cell, empty, reached}
 
@@ -82,9 +82,6 @@ filled_more {ws} {ws'} {ws''} {at} {j} {f} r l e = record {
       (rw e (get_same ws' (at + j) _ (omega (arith, r.same_length))));
   outside = λ x h. rw e (get_other ws' (at + j) x _ (h j (omega arith)) ∙ r.outside x (λ k m. h k (omega arith)));
 }
-
-pub filled_all : {ws ws' : List ℕ} {at n j : ℕ} {f : ℕ → Cell} → j ≤ n → n ≤ j → Filled ws ws' at j f → Filled ws ws' at n f
-filled_all h k r = rw (le_antisymm k h) r
 
 -- while a row is filled from a row apart, what is still to be read is unchanged
 module _ {ws ws' : List ℕ} {from to len j : ℕ} {f : ℕ → Cell} (rows : Rows ws from to len) (l : j < len) (r : Filled ws ws' to j f) where
@@ -162,6 +159,3 @@ pub counted-more : (ws : List ℕ) (at j : ℕ) {n count : ℕ} {c : Cell} → c
 counted-more ws at j {n} {count} {c} h e p =
     ap₂ ◌+◌ h (p ∙ ap (λ (t : Bool). cond t 1 0) (ap (λ (d : Cell). ltb 0 d.worth) e ∙ reached-worth (cell_at ws (at + j))))
     ∙ ap (λ m. count_upto m (reached ws at)) (sym (add-one j))
-
-pub counted-all : (ws : List ℕ) (at : ℕ) {n j count : ℕ} → j ≤ n → n ≤ j → count ≡ count_upto j (reached ws at) → count ≡ count_upto n (reached ws at)
-counted-all ws at h k e = rw (le_antisymm k h) e

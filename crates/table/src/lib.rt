@@ -6,6 +6,7 @@ ghost use Rattle.model.specs.Cells.{count_upto};
 ghost use Rattle.table.specs.Table.{cell_at, put_at, offered, offered_at, Room, Rows, Roomy, Filled, offered_row, copied_row, carried_row, no_cell, reached};
 
 // A cell: `worth` is 0 where it is empty, and else one more than the worth of its choice; `code` is the code of its choice.
+// No Option: a cell is two of the lent words, which leave no room for a third.
 #[derive(Clone, Copy)]
 pub struct Cell {
     pub worth: u64,
@@ -73,10 +74,8 @@ pub fn offer_row(work: &mut [u64], from: usize, to: usize, len: usize, gain: u64
     requires roomy { Roomy work.old from len gain digit }
     ensures { Filled work.old work.new to len (offered_row work.old from to gain digit) }
 {
-    let mut j: usize = 0;
-    while j < len {
+    for j in 0..len {
         offer_cell(work, from + j, to + j, gain, digit);
-        j += 1;
     }
 }
 
@@ -85,11 +84,9 @@ fn copy_row(work: &mut [u64], from: usize, to: usize, len: usize)
     requires { Rows work.old from to len }
     ensures { Filled work.old work.new to len (copied_row work.old from) }
 {
-    let mut j: usize = 0;
-    while j < len {
+    for j in 0..len {
         let c = get(work, from + j);
         put(work, to + j, c);
-        j += 1;
     }
 }
 
@@ -97,7 +94,7 @@ fn copy_row(work: &mut [u64], from: usize, to: usize, len: usize)
 fn one(worth: u64) -> usize
     ensures { (result ≡ cond (ltb 0 worth) 1 0) × (result ≤ 1) }
 {
-    if 0 < worth { 1 } else { 0 }
+    usize::from(worth != 0)
 }
 
 // Counts the reached cells among the `len` cells from `at` on.
@@ -106,11 +103,9 @@ fn count_row(work: &[u64], at: usize, len: usize) -> usize
     ensures { (result ≡ count_upto len (reached work.now at)) × (result ≤ len) }
 {
     let mut count: usize = 0;
-    let mut j: usize = 0;
-    while j < len {
+    for j in 0..len {
         let c = get(work, at + j);
         count += one(c.worth);
-        j += 1;
     }
     count
 }
@@ -131,10 +126,8 @@ pub fn clear(work: &mut [u64], at: usize, len: usize)
     requires { 2 * (at + len) ≤ length work.old }
     ensures { Filled work.old work.new at len no_cell }
 {
-    let mut j: usize = 0;
-    while j < len {
+    for j in 0..len {
         put(work, at + j, Cell { worth: 0, code: 0 });
-        j += 1;
     }
 }
 

@@ -12,46 +12,25 @@ ghost use Rattle.hexadecimal.specs.Written.{written};
 ghost use Rattle.views.specs.Read.{Read};
 ghost use Rattle.views.specs.MillLine.{load_bytes, loads_bytes, mill_bytes};
 
-use model::{Answer, Book, Refusal};
+use model::{Answer, Book, Refusal, Refused};
 
-// What was read of a book and a sheet: the answer of a refusal, or number 0, the book and the numbers of the sheet's choice.
+// A book and the numbers of the choice on a sheet that belongs to it.
 #[derive(Clone, Copy)]
-pub struct SheetReading {
-    pub answer: Answer,
+pub struct SheetRead {
     pub book: Book,
     pub picks: [usize; Book::LOADS],
 }
 
 // Reads a book and a sheet: refusals 1 to 8 and 13, or the book and the choice.
-fn read(book: &[u8], sheet: &[u8]) -> SheetReading
+fn read(book: &[u8], sheet: &[u8]) -> Result<SheetRead, Refused>
     ensures { Read book.now sheet.now result }
 {
-    let reading = book::read_book(book);
-    let answer = reading.answer;
-    let book = reading.book;
-    if answer.number != 0 {
-        let picks = [0usize; Book::LOADS];
-        return SheetReading {
-            answer,
-            book,
-            picks,
-        };
-    }
-    let on = chosen::choice_on(book, sheet);
+    let book = book::read_book(book)?;
+    let Some(on) = chosen::choice_on(book, sheet) else {
+        return Err(Refusal::ForeignSheet.on_line(0));
+    };
     let picks = on.picks;
-    if !on.belongs {
-        let answer = Answer::refusal(Refusal::ForeignSheet, 0);
-        return SheetReading {
-            answer,
-            book,
-            picks,
-        };
-    }
-    SheetReading {
-        answer,
-        book,
-        picks,
-    }
+    Ok(SheetRead { book, picks })
 }
 
 // How many bytes number and level of the running loads take.
@@ -60,12 +39,10 @@ fn loads_length(picks: [usize; Book::LOADS], count: usize) -> usize
     ensures { result ≡ length (loads_bytes picks count) }
 {
     let mut bytes = 0;
-    let mut k = 0;
-    while k < count {
+    for k in 0..count {
         if picks[k] != 0 {
             bytes += 4;
         }
-        k += 1;
     }
     bytes
 }
@@ -85,7 +62,7 @@ fn write_load(view: &mut [u8], at: usize, k: usize, level: usize) -> usize
     at + 4
 }
 
-// Writes number and level of the running loads from `at` on, and answers the place after them.
+// Writes number and level of the running loads from `at` on, and answers the place after them; a `fold` would have to lend the view to its closure.
 fn write_loads(view: &mut [u8], at: usize, picks: [usize; Book::LOADS], count: usize) -> usize
     requires count_le_most_loads { count ≤ most_loads }
     requires count_in_bounds { at + length (loads_bytes picks count) ≤ length view.old }
@@ -93,10 +70,8 @@ fn write_loads(view: &mut [u8], at: usize, picks: [usize; Book::LOADS], count: u
     ensures next { result ≡ at + length (loads_bytes picks count) }
 {
     let mut next = at;
-    let mut k = 0;
-    while k < count {
+    for k in 0..count {
         next = write_load(view, next, k, picks[k]);
-        k += 1;
     }
     next
 }
@@ -147,18 +122,14 @@ fn supply_of(book: Book, picks: [usize; Book::LOADS], view: &mut [u8]) -> Answer
     Answer::success(bytes as u64, 0, 0)
 }
 
-// The mill's view of a sheet.
+// The mill's view of a sheet. This call and the next are no one function, as what each makes of the choice has a promise of its own.
 pub fn mill_view(book: &[u8], sheet: &[u8], view: &mut [u8]) -> Answer
     ensures { Writes (mill_result book.now sheet.now (length view.old)) view.old view.new result }
 {
-    let reading = read(book, sheet);
-    let answer = reading.answer;
-    if answer.number != 0 {
-        return answer;
+    match read(book, sheet) {
+        Ok(read) => mill_of(read.book, read.picks, view),
+        Err(refused) => Answer::from(refused),
     }
-    let book = reading.book;
-    let picks = reading.picks;
-    mill_of(book, picks, view)
 }
 
 // The supply company's view of a sheet.
@@ -166,12 +137,8 @@ pub fn supply_view(book: &[u8], sheet: &[u8], view: &mut [u8]) -> Answer
     ensures result { Writes (supply_result book.now sheet.now (length view.old)) view.old view.new result }
     ensures alone { NothingElse book.now sheet.now view.old view.new result }
 {
-    let reading = read(book, sheet);
-    let answer = reading.answer;
-    if answer.number != 0 {
-        return answer;
+    match read(book, sheet) {
+        Ok(read) => supply_of(read.book, read.picks, view),
+        Err(refused) => Answer::from(refused),
     }
-    let book = reading.book;
-    let picks = reading.picks;
-    supply_of(book, picks, view)
 }

@@ -1,5 +1,5 @@
 -- `book::read_loads` meets its contract. The invariant: k lines are read, and what is left decides.
-use Prim.Native.Nat.{◌-◌, ◌≤◌}
+use Prim.Native.Nat.{◌≤◌}
 use mathlib.Core.Path.{◌≡◌}
 use lib.ListN.{length}
 use Rattle.model.specs.Bounds.{most_loads}
@@ -7,7 +7,4 @@ use Rattle.book.proofs.LoadsLaws.{Read}
 use Rattle.book.proofs.read_loads.Given as goal
 
 abbrev pub invariant-loop-k : goal.invariant-loop-k
-invariant-loop-k l = (l.at ≤ length l.s) × (l.k ≤ l.count) × (length l.loads ≡ most_loads) × Read l.slots l.ratio l.count l.s l.at l.k l.loads
-
-abbrev pub decreases-loop-k : goal.decreases-loop-k
-decreases-loop-k l = l.count - l.k
+invariant-loop-k l = (l.at ≤ length l.s) × (length l.loads ≡ most_loads) × Read l.slots l.ratio l.count l.s l.at l.k l.loads

@@ -1,8 +1,6 @@
 -- `chosen::picks_on` meets its contract. The invariant: the numbers of the loads passed stand in the array.
 use mathlib.Core.Path.{refl}
-use Prim.Native.Nat.{◌-◌}
 use Rattle.model.specs.Values.{problem_of}
-use borrow.Author.Rules.{rules}
 use native.Mathlib.Omega.{arith}
 use Rattle.model.proofs.HeldLaws.{no_load, held-count, held-few}
 use Rattle.chosen.proofs.SheetChoiceLaws.{read_start, numbers-few, read_more, read_below, read_past, read_found}
@@ -11,7 +9,7 @@ use Rattle.chosen.proofs.picks_on.Goals as goal
 pub loop-k-init : goal.loop-k-init
 loop-k-init c =
     let a = c.args in
-    (search rules, held-few a.book c.requires.held, read_start a.sheet.now (problem_of a.book) _ refl)
+    (held-few a.book c.requires.held, read_start a.sheet.now (problem_of a.book) _ refl)
 
 pub number-c-requires : goal.number-c-requires
 number-c-requires c =
@@ -36,13 +34,12 @@ returns-then-load-c c =
 pub loop-k-preserved : goal.loop-k-preserved
 loop-k-preserved c =
     let l = c.loop-k in (
-      search rules,
-      search rules,
-      read_more c.args.book c.requires.held c.args.sheet.now l.picks l.k no_load c.number-c.result (omega arith) l.invariant.2
+      l.invariant.0,
+      read_more c.args.book c.requires.held c.args.sheet.now l.picks l.k no_load c.number-c.result (omega arith) l.invariant.1
           c.number-c.ensures (omega arith) (omega arith),
     )
 
 pub returns : goal.returns
 returns c =
     let l = c.loop-k in
-    read_found c.args.book c.requires.held c.args.sheet.now l.picks l.k (omega arith) l.invariant.2
+    read_found c.args.book c.requires.held c.args.sheet.now l.picks l.k (omega arith) l.invariant.1

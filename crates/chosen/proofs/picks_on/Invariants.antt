@@ -1,12 +1,9 @@
 -- `chosen::picks_on` meets its contract. The invariant: the numbers of the loads passed stand in the array.
-use Prim.Native.Nat.{◌-◌, ◌≤◌}
+use Prim.Native.Nat.{◌≤◌}
 use Rattle.model.specs.Bounds.{most_loads}
 use Rattle.model.specs.Values.{problem_of}
 use Rattle.chosen.proofs.SheetChoiceLaws.{ReadUpto}
 use Rattle.chosen.proofs.picks_on.Given as goal
 
 abbrev pub invariant-loop-k : goal.invariant-loop-k
-invariant-loop-k l = (l.k ≤ l.book.count) × (l.book.count ≤ most_loads) × ReadUpto l.sheet (problem_of l.book) l.k l.picks
-
-abbrev pub decreases-loop-k : goal.decreases-loop-k
-decreases-loop-k l = l.book.count - l.k
+invariant-loop-k l = (l.book.count ≤ most_loads) × ReadUpto l.sheet (problem_of l.book) l.k l.picks

@@ -8,29 +8,15 @@ use Rattle.day.proofs.BookLaws.{same_output, same-free}
 use Rattle.hexadecimal.specs.Written.{written}
 use Rattle.day.proofs.write_book.Goals as goal
 
-pub returns-clause-bytes : goal.returns-clause-bytes
-returns-clause-bytes c =
+pub returns : goal.returns
+returns c =
     let p = c.plan-answer in
     let book = c.args.book.now in
     let words = length c.args.work.now in
     let out = c.args.out.now in
     let same = same_output words book (length out) c.requires in
-    c.print_answer.ensures.bytes ∙ printed-over _ out _ _ c.plan-answer.ensures.result ∙ ap (written out 0) same
-
-pub returns-clause-length : goal.returns-clause-length
-returns-clause-length c =
-    let p = c.plan-answer in
-    let book = c.args.book.now in
-    let words = length c.args.work.now in
-    let out = c.args.out.now in
-    let same = same_output words book (length out) c.requires in
-    c.print_answer.ensures.length ∙ ap length (printed_from_lem _ c.plan-answer.ensures.result ∙ same)
-
-pub returns-clause-words : goal.returns-clause-words
-returns-clause-words c =
-    let p = c.plan-answer in
-    let book = c.args.book.now in
-    let words = length c.args.work.now in
-    let out = c.args.out.now in
-    let same = same_output words book (length out) c.requires in
-    subst (λ n. WordsKept n c.args.work.now p.new.work) (same-free words book (length out) c.requires) c.plan-answer.ensures.words
+    record {
+      bytes = c.print_answer.ensures.bytes ∙ printed-over _ out _ _ p.ensures.result ∙ ap (written out 0) same;
+      length = c.print_answer.ensures.length ∙ ap length (printed_from_lem _ p.ensures.result ∙ same);
+      words = subst (λ n. WordsKept n c.args.work.now p.new.work) (same-free words book (length out) c.requires) p.ensures.words;
+    }

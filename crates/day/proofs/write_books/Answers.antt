@@ -38,16 +38,9 @@ loop-from-preserved c =
     progress_more a.books.now a.work.now a.out.now l.work l.out l.at l.from l.invariant e.result w.result _ _ _ (omega arith) e.ensures
     refl c.write_book-at.ensures.length (part_written l.out _ _ l.at c.write_book-at.ensures.bytes (omega (arith, room))) c.write_book-at.ensures.words
 
-pub returns-clause-bytes : goal.returns-clause-bytes
-returns-clause-bytes c =
+pub returns : goal.returns
+returns c =
     let a = c.args in
     let l = c.loop-from in
     let p = progress_all a.books.now a.work.now a.out.now l.work l.out l.at l.from l.invariant (omega arith) in
-    p.0
-
-pub returns-clause-length : goal.returns-clause-length
-returns-clause-length c =
-    let a = c.args in
-    let l = c.loop-from in
-    let p = progress_all a.books.now a.work.now a.out.now l.work l.out l.at l.from l.invariant (omega arith) in
-    p.1
+    record { bytes = p.0; length = p.1; words = l.invariant.words }

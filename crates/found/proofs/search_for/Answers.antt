@@ -1,89 +1,71 @@
 -- `found::search_for` meets its contract: the search runs over the book's table, and the scan finds the plan of its test.
 use native.Mathlib.Omega.{arith}
 use Rattle.grid.proofs.SlotLaws.{laid}
-use Rattle.search.specs.Search.{Modelled}
 use Rattle.search.proofs.ModelLaws.{grid_fits}
-use Rattle.found.proofs.SearchLaws.{model, layer_room, words_enough, words_kept, layer_coded, found-over, found_within}
+use Rattle.found.proofs.SearchLaws.{model, moves_are, layer_room, words_enough, words_kept, layer_coded, found-over, found-missing, found-plan}
 use Rattle.found.proofs.search_for.Goals as goal
 
 pub loads_of-moves-requires-clause-laid : goal.loads_of-moves-requires-clause-laid
 loads_of-moves-requires-clause-laid c = laid c.args.book c.requires.held c.args.grid c.requires.grid_is
 
-pub search-ran-requires-clause-cells_in_bounds : goal.search-ran-requires-clause-cells_in_bounds
-unfolding laid
-search-ran-requires-clause-cells_in_bounds c =
-    let modelled : Modelled c.args.grid c.args.book.count c.loads_of-moves.result = model c.args.book c.requires.held c.args.grid c.requires.grid_is c.loads_of-moves.result (c.loads_of-moves.ensures (laid c.args.book c.requires.held c.args.grid c.requires.grid_is)) in
-    words_enough c.args.book c.requires.held c.args.grid c.requires.grid_is c.args.work.now c.requires.book_in_bounds
+pub search-ran-requires : goal.search-ran-requires
+search-ran-requires c =
+    let a = c.args in
+    let r = c.requires in
+    record {
+      cells_in_bounds = words_enough a.book r.held a.grid r.grid_is a.work.now r.book_in_bounds;
+      modelled = model a.book r.held a.grid r.grid_is _ (moves_are a.book r.held a.grid r.grid_is _ c.loads_of-moves.ensures);
+    }
 
-pub search-ran-requires-clause-modelled : goal.search-ran-requires-clause-modelled
-unfolding laid
-search-ran-requires-clause-modelled c =
-    let modelled : Modelled c.args.grid c.args.book.count c.loads_of-moves.result = model c.args.book c.requires.held c.args.grid c.requires.grid_is c.loads_of-moves.result (c.loads_of-moves.ensures (laid c.args.book c.requires.held c.args.grid c.requires.grid_is)) in
-    modelled
+pub returns-then-budget-trials : goal.returns-then-budget-trials
+returns-then-budget-trials c =
+    let a = c.args in
+    let r = c.requires in
+    let loads = moves_are a.book r.held a.grid r.grid_is _ c.loads_of-moves.ensures in
+    let ran = c.search-ran.ensures in
+    record {
+      found = found-over a.book r.held a.grid r.grid_is _ loads a.test _ _ _ _ _ (ran.searched (model a.book r.held a.grid r.grid_is _ loads)) c.if-budget-trials.true;
+      words = words_kept a.book r.held a.grid r.grid_is _ _ _ _ _ ran.places ran.work_unchanged;
+    }
 
-pub returns-then-budget-trials-clause-found : goal.returns-then-budget-trials-clause-found
-unfolding laid
-returns-then-budget-trials-clause-found c =
-    let l = c.loads_of-moves in
-    let loads = l.ensures (laid c.args.book c.requires.held c.args.grid c.requires.grid_is) in
-    let r = c.search-ran in
-    found-over c.args.book c.requires.held c.args.grid c.requires.grid_is l.result loads c.args.test _ _ _ _ _
-    (c.search-ran.ensures.searched (model c.args.book c.requires.held c.args.grid c.requires.grid_is l.result loads)) c.if-budget-trials.true _ 0
+pub scan-best-requires : goal.scan-best-requires
+scan-best-requires c =
+    let a = c.args in
+    let r = c.requires in
+    let loads = moves_are a.book r.held a.grid r.grid_is _ c.loads_of-moves.ensures in
+    let m = model a.book r.held a.grid r.grid_is c.loads_of-moves.result loads in
+    let ran = c.search-ran.ensures in
+    record {
+      grid_fits = grid_fits m;
+      cells_in_bounds = layer_room ran.places (words_enough a.book r.held a.grid r.grid_is a.work.now r.book_in_bounds);
+      stretches_fit = record { low_fits = ran.places.low_fits; high_fits = ran.places.high_fits };
+      held = r.held;
+      grid_is = r.grid_is;
+      layer_coded = layer_coded a.book r.held a.grid r.grid_is _ loads _ _ _ _ ((ran.searched m).within (omega (arith, c.if-budget-trials.false))).1;
+    }
 
-pub returns-then-budget-trials-clause-words : goal.returns-then-budget-trials-clause-words
-unfolding laid
-returns-then-budget-trials-clause-words c =
-    let l = c.loads_of-moves in
-    let loads = l.ensures (laid c.args.book c.requires.held c.args.grid c.requires.grid_is) in
-    let r = c.search-ran in
-    words_kept c.args.book c.requires.held c.args.grid c.requires.grid_is _ _ _ _ _ c.search-ran.ensures.places c.search-ran.ensures.work_unchanged
+pub returns-then-best-eq0 : goal.returns-then-best-eq0
+returns-then-best-eq0 c =
+    let a = c.args in
+    let r = c.requires in
+    let loads = moves_are a.book r.held a.grid r.grid_is _ c.loads_of-moves.ensures in
+    let ran = c.search-ran.ensures in
+    record {
+      found =
+          found-missing a.book r.held a.grid r.grid_is _ loads a.test _ _ _ _ _ c.scan-best.ensures _ (ran.searched (model a.book r.held a.grid r.grid_is _ loads))
+          (omega (arith, c.if-budget-trials.false)) c.if-best-eq0.true;
+      words = words_kept a.book r.held a.grid r.grid_is _ _ _ _ _ ran.places ran.work_unchanged;
+    }
 
-pub scan-best-requires-clause-grid_fits : goal.scan-best-requires-clause-grid_fits
-unfolding laid
-scan-best-requires-clause-grid_fits c =
-    let l = c.loads_of-moves in
-    let loads = l.ensures (laid c.args.book c.requires.held c.args.grid c.requires.grid_is) in
-    let m = model c.args.book c.requires.held c.args.grid c.requires.grid_is l.result loads in
-    let r = c.search-ran.ensures in
-    let q = r.places in
-    let w = (r.searched m).within (omega (arith, c.if-budget-trials.false)) in
-    grid_fits m
-
-pub scan-best-requires-clause-cells_in_bounds : goal.scan-best-requires-clause-cells_in_bounds
-unfolding laid
-scan-best-requires-clause-cells_in_bounds c =
-    let l = c.loads_of-moves in
-    let loads = l.ensures (laid c.args.book c.requires.held c.args.grid c.requires.grid_is) in
-    let m = model c.args.book c.requires.held c.args.grid c.requires.grid_is l.result loads in
-    let r = c.search-ran.ensures in
-    let q = r.places in
-    let w = (r.searched m).within (omega (arith, c.if-budget-trials.false)) in
-    layer_room q (words_enough c.args.book c.requires.held c.args.grid c.requires.grid_is c.args.work.now c.requires.book_in_bounds)
-
-pub scan-best-requires-clause-layer_coded : goal.scan-best-requires-clause-layer_coded
-unfolding laid
-scan-best-requires-clause-layer_coded c =
-    let l = c.loads_of-moves in
-    let loads = l.ensures (laid c.args.book c.requires.held c.args.grid c.requires.grid_is) in
-    let m = model c.args.book c.requires.held c.args.grid c.requires.grid_is l.result loads in
-    let r = c.search-ran.ensures in
-    let q = r.places in
-    let w = (r.searched m).within (omega (arith, c.if-budget-trials.false)) in
-    layer_coded c.args.book c.requires.held c.args.grid c.requires.grid_is l.result loads _ _ _ _ w.1
-
-pub returns-clause-found : goal.returns-clause-found
-unfolding laid
-returns-clause-found c =
-    let l = c.loads_of-moves in
-    let loads = l.ensures (laid c.args.book c.requires.held c.args.grid c.requires.grid_is) in
-    let r = c.search-ran in
-    found_within c.args.book c.requires.held c.args.grid c.requires.grid_is l.result loads c.args.test _ _ _ _ _ c.scan-best.ensures _
-    (c.search-ran.ensures.searched (model c.args.book c.requires.held c.args.grid c.requires.grid_is l.result loads)) (omega (arith, c.if-budget-trials.false))
-
-pub returns-clause-words : goal.returns-clause-words
-unfolding laid
-returns-clause-words c =
-    let l = c.loads_of-moves in
-    let loads = l.ensures (laid c.args.book c.requires.held c.args.grid c.requires.grid_is) in
-    let r = c.search-ran in
-    words_kept c.args.book c.requires.held c.args.grid c.requires.grid_is _ _ _ _ _ c.search-ran.ensures.places c.search-ran.ensures.work_unchanged
+pub returns : goal.returns
+returns c =
+    let a = c.args in
+    let r = c.requires in
+    let loads = moves_are a.book r.held a.grid r.grid_is _ c.loads_of-moves.ensures in
+    let ran = c.search-ran.ensures in
+    record {
+      found =
+          found-plan a.book r.held a.grid r.grid_is _ loads a.test _ _ _ _ _ c.scan-best.ensures _ (ran.searched (model a.book r.held a.grid r.grid_is _ loads))
+          (omega (arith, c.if-budget-trials.false)) c.if-best-eq0.false;
+      words = words_kept a.book r.held a.grid r.grid_is _ _ _ _ _ ran.places ran.work_unchanged;
+    }

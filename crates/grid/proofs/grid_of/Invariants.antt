@@ -7,8 +7,5 @@ use Rattle.grid.proofs.grid_of.Given as goal
 
 abbrev pub invariant-loop-t : goal.invariant-loop-t
 invariant-loop-t l =
-    (l.t ≤ l.slots) × (l.slots ≤ 4)
-    × MadeFrom (slots_of (problem_of l.book)) l.t (record { slots = l.slots; steps = l.steps; tops = l.tops; widths = l.widths; depths = l.depths; rows = l.rows; width = l.width; cells = l.cells; origin = l.origin })
-
-abbrev pub decreases-loop-t : goal.decreases-loop-t
-decreases-loop-t l = l.t
+    (l.slots ≤ 4)
+    × MadeFrom (slots_of (problem_of l.book)) l.t (record { slots = l.slots; sizes = l.sizes; rows = l.rows; width = l.width; cells = l.cells; origin = l.origin })

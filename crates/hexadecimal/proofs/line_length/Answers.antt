@@ -1,16 +1,13 @@
--- `hexadecimal::line_length` meets its contract. The invariant: what is left has the rest of the line.
-use Rattle.hexadecimal.proofs.FieldLaws.{line_go, line_stop, line-end}
-use borrow.Author.Rules.{rules}
-use native.Mathlib.Omega.{arith}
+-- `hexadecimal::line_length` meets its contract.
+use Rattle.std.proofs.Common.{rules, tests, eqb}
+use Rattle.std.proofs.lemmas.Iterator.{YieldsList-from_slice}
+use Rattle.std.proofs.lemmas.Iterator.Search.{position_from_yields_List}
+use Rattle.hexadecimal.proofs.FieldLaws.{line_found}
 use Rattle.hexadecimal.proofs.line_length.Goals as goal
 
-pub returns-then-s-i-eq10 : goal.returns-then-s-i-eq10
-returns-then-s-i-eq10 c =
-    line_stop _ c.loop-i.i _ (search rules) c.if-s-i-eq10.true c.loop-i.invariant.1
-
-pub loop-i-preserved : goal.loop-i-preserved
-loop-i-preserved c =
-    (search rules, line_go _ c.loop-i.i _ (search rules) c.if-s-i-eq10.false c.loop-i.invariant.1)
-
 pub returns : goal.returns
-returns c = line-end _ c.loop-i.i _ (omega arith) c.loop-i.invariant.1
+returns c =
+    let s = c.args.s.now in
+    line_found s _ c.unwrap_or.result
+    (position_from_yields_List (λ b. eqb b 10) _ _ c.position.result c.position.ensures.ran (YieldsList-from_slice s cc) (λ x b q k. search (rules, tests)))
+    c.unwrap_or.ensures

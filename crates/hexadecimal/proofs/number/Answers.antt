@@ -5,13 +5,12 @@ use lib.ListN.{get_or}
 use Rattle.model.specs.Frames.{value_from, field}
 use Rattle.model.proofs.FrameLaws.{field-small, value_below}
 use Rattle.hexadecimal.proofs.FieldLaws.{field-more}
-use borrow.Author.Rules.{rules}
 use native.Mathlib.Omega.{arith}
 use Rattle.hexadecimal.proofs.number.Goals as goal
 
 pub loop-i-init : goal.loop-i-init
 unfolding field value_from
-loop-i-init c = (search rules, refl)
+loop-i-init c = refl
 
 pub overflow_mul-v : goal.overflow_mul-v
 overflow_mul-v c =
@@ -28,4 +27,4 @@ pub loop-i-preserved : goal.loop-i-preserved
 loop-i-preserved c =
     let a = c.args in
     let i = c.loop-i.i in
-    (search rules, omega (arith, field-more a.line.now a.at i (omega arith)))
+    omega (arith, field-more a.line.now a.at i (omega arith))

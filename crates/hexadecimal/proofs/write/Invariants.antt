@@ -1,13 +1,9 @@
--- `hexadecimal::write` meets its contract. The invariant: the digits from the end are written, and `rest` is what is left of x.
+-- `hexadecimal::write` meets its contract. The invariant: the digits from place i on are written, and `rest` is what is left of x.
 use mathlib.Core.Path.{◌≡◌}
 use Rattle.model.specs.Frames.{digits}
-use Prim.Native.Nat.{◌+◌, ◌-◌, ◌/◌, ◌^◌, ◌≤◌}
-use lib.ListN.{length}
+use Prim.Native.Nat.{◌+◌, ◌-◌, ◌/◌, ◌^◌}
 use Rattle.hexadecimal.specs.Written.{written}
 use Rattle.hexadecimal.proofs.write.Given as goal
 
-abbrev pub invariant-loop-left : goal.invariant-loop-left
-invariant-loop-left l = (l.left ≤ l.n) × (length l.buf ≡ length l.initial.buf) × (l.rest ≡ l.x / 16 ^ (l.n - l.left)) × (l.buf ≡ written l.initial.buf (l.at + l.left) (digits (l.n - l.left) l.x))
-
-abbrev pub decreases-loop-left : goal.decreases-loop-left
-decreases-loop-left l = l.left
+abbrev pub invariant-loop-i : goal.invariant-loop-i
+invariant-loop-i l = (l.rest ≡ l.x / 16 ^ (l.n - l.i)) × (l.buf ≡ written l.initial.buf (l.at + l.i) (digits (l.n - l.i) l.x))

@@ -11,7 +11,7 @@ pub overflow_mul-zero : goal.overflow_mul-zero
 overflow_mul-zero c = omega (arith, held-few c.args.book c.requires.held)
 
 pub loop-s-init : goal.loop-s-init
-loop-s-init c = (search rules, held_four c.args.book c.requires.held, λ choice is small sized. keeps-all (problem_of c.args.book) choice)
+loop-s-init c = (held_four c.args.book c.requires.held, λ choice is small sized. keeps-all (problem_of c.args.book) choice)
 
 pub fits-requires : goal.fits-requires
 fits-requires c =
@@ -28,21 +28,20 @@ returns-then-not-fits c =
     λ choice is small sized.
     keeps_stop (problem_of c.args.book) choice l.s _ (omega (arith, held-slots c.args.book c.requires.held))
     (entry_kept c.args.book c.requires.held c.args.sums choice is small sized l.s (omega arith) c.fits.result c.fits.ensures ∙ c.if-not-fits.true)
-    (l.invariant.2 choice is small sized)
+    (l.invariant.1 choice is small sized)
 
 pub loop-s-preserved : goal.loop-s-preserved
 loop-s-preserved c =
     let l = c.loop-s in (
       search rules,
-      search rules,
       λ choice is small sized.
           keeps_go (problem_of c.args.book) choice l.s _ (omega (arith, held-slots c.args.book c.requires.held))
           (entry_kept c.args.book c.requires.held c.args.sums choice is small sized l.s (omega arith) c.fits.result c.fits.ensures ∙ c.if-not-fits.false)
-          (l.invariant.2 choice is small sized),
+          (l.invariant.1 choice is small sized),
     )
 
 pub returns : goal.returns
 returns c =
     let l = c.loop-s in
     λ choice is small sized.
-    keeps-end (problem_of c.args.book) choice l.s _ (omega (arith, held-slots c.args.book c.requires.held)) (l.invariant.2 choice is small sized)
+    keeps-end (problem_of c.args.book) choice l.s _ (omega (arith, held-slots c.args.book c.requires.held)) (l.invariant.1 choice is small sized)

@@ -1,6 +1,6 @@
 -- `limits::keeps` meets its contract. The invariant: the slots that are left decide.
 use mathlib.Core.Path.{◌≡◌}
-use Prim.Native.Nat.{◌-◌, ◌≤◌}
+use Prim.Native.Nat.{◌≤◌}
 use lib.ListN.{length}
 use Rattle.model.specs.Lists.{Every}
 use Rattle.model.specs.Choice.{Choice}
@@ -13,10 +13,6 @@ use Rattle.limits.proofs.keeps.Given as goal
 
 abbrev pub invariant-loop-s : goal.invariant-loop-s
 invariant-loop-s l =
-    (l.s ≤ l.book.slots)
-    × (l.book.slots ≤ 4)
+    (l.book.slots ≤ 4)
     × ((c : Choice) → l.sums ≡ sums_value c → Every SettingSmall c → length c ≡ length (problem_of l.book).loads
     → keeps_from (problem_of l.book) l.s c ≡ keeps_limits (slots_of (problem_of l.book)) c)
-
-abbrev pub decreases-loop-s : goal.decreases-loop-s
-decreases-loop-s l = l.book.slots - l.s

@@ -1,4 +1,4 @@
--- `loadline::exceeds_at` meets its contract: the distance of Q plus 32,768 from 32,768 is |Q|.
+-- `loadline::exceeds_at` meets its contract: Q plus 32,768 is as far from 32,768 as |Q|.
 use mathlib.Core.Path.{ap}
 use Prim.Native.Nat.{◌*◌, ◌≤◌}
 use native.Mathlib.Nat.{mul-le-mul}
@@ -27,5 +27,5 @@ returns c =
     let a = c.args in
     let vs = settings a.slots a.line.now in
     let v = setting_of vs a.c in
-    rw (c.distance.ensures, c.power_of-power.ensures)
+    rw (c.abs_diff.ensures, c.power_of-power.ensures)
     (ap (ltb (a.ratio * (power_in a.s v).p)) (abs_raised (power_in a.s v).q ((setting_small vs (small-settings a.slots a.line.now) a.c).reactive a.s)))

@@ -1,9 +1,9 @@
 -- `loadline::power_of` meets its contract: standing, past the last option or slot, or an option in a slot.
 use mathlib.Core.Path.{sym, ap, ◌∙◌}
-use Prim.Native.Nat.{◌+◌, ◌-◌, ◌*◌, ◌≤◌}
+use Prim.Native.Nat.{◌+◌, ◌-◌, ◌*◌}
 use Rattle.model.specs.Book.{power_at, option_start}
 use Rattle.loadline.specs.LoadLine.{power_value}
-use Rattle.loadline.proofs.LineLaws.{option_ranges, line_holds, power_standing, power_past, power_no_slot, power_option, option-small, option_next, holds_option}
+use Rattle.loadline.proofs.LineLaws.{option_ranges, line_holds, power_standing, power_past, power_no_slot, power_option, option_within}
 use native.Mathlib.Omega.{arith}
 use Rattle.loadline.proofs.power_of.Goals as goal
 
@@ -32,21 +32,18 @@ option_start-at-requires c =
 
 pub overflow_add-at : goal.overflow_add-at
 overflow_add-at c =
-    let small : option_start c.args.slots c.args.pairs (c.args.c - 1) ≤ 144 = let r = option_ranges c.args.slots c.args.pairs (c.args.c - 1) c.args.count c.args.line.now c.requires (omega arith) in
-    option-small c.args.slots c.args.pairs (c.args.c - 1) r.0 r.1 r.2 in
-    omega (arith, small)
+    let at = option_within c.args.slots c.args.pairs (c.args.c - 1) c.args.count c.args.line.now c.requires (omega arith) in
+    omega (arith, at)
 
 pub overflow_add-at-2 : goal.overflow_add-at-2
 overflow_add-at-2 c =
-    let small : option_start c.args.slots c.args.pairs (c.args.c - 1) ≤ 144 = let r = option_ranges c.args.slots c.args.pairs (c.args.c - 1) c.args.count c.args.line.now c.requires (omega arith) in
-    option-small c.args.slots c.args.pairs (c.args.c - 1) r.0 r.1 r.2 in
-    let h = c.requires in
-    omega (arith, small)
+    let at = option_within c.args.slots c.args.pairs (c.args.c - 1) c.args.count c.args.line.now c.requires (omega arith) in
+    omega (arith, at)
 
 pub power_at-requires : goal.power_at-requires
 power_at-requires c =
-    let r = holds_option c.args.slots c.args.pairs (c.args.c - 1) c.args.count c.args.line.now c.requires (omega arith) in
-    omega (arith, option_next c.args.slots c.args.pairs (c.args.c - 1))
+    let at = option_within c.args.slots c.args.pairs (c.args.c - 1) c.args.count c.args.line.now c.requires (omega arith) in
+    omega (arith, at)
 
 pub returns : goal.returns
 returns c =

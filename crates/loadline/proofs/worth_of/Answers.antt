@@ -1,7 +1,7 @@
 -- `loadline::worth_of` meets its contract: standing, past the last option, or an option.
 use mathlib.Core.Path.{sym, ◌∙◌}
 use Prim.Native.Nat.{◌-◌}
-use Rattle.loadline.proofs.LineLaws.{option_ranges, setting_option, setting_past, worth-standing, option_next, holds_option}
+use Rattle.loadline.proofs.LineLaws.{option_ranges, setting_option, setting_past, worth-standing, option_within}
 use native.Mathlib.Omega.{arith}
 use Rattle.loadline.proofs.worth_of.Goals as goal
 
@@ -22,8 +22,8 @@ option_start-at-requires c =
 
 pub number-requires : goal.number-requires
 number-requires c =
-    let r = holds_option c.args.slots c.args.pairs (c.args.c - 1) c.args.count c.args.line.now c.requires (omega arith) in
-    omega (arith, option_next c.args.slots c.args.pairs (c.args.c - 1))
+    let at = option_within c.args.slots c.args.pairs (c.args.c - 1) c.args.count c.args.line.now c.requires (omega arith) in
+    omega (arith, at)
 
 pub returns : goal.returns
 returns c =

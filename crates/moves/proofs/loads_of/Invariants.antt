@@ -1,5 +1,5 @@
 -- `moves::loads_of` meets its contract. The invariant: the loads passed have their moves, and the unit is 4^k.
-use Prim.Native.Nat.{ℕ, ◌-◌, ◌^◌, ◌<◌, ◌≤◌}
+use Prim.Native.Nat.{ℕ, ◌^◌, ◌<◌, ◌≤◌}
 use mathlib.Core.Path.{◌≡◌}
 use mathlib.Core.List.{[]}
 use lib.ListN.{get_or, length}
@@ -11,8 +11,5 @@ use Rattle.moves.proofs.loads_of.Given as goal
 
 abbrev pub invariant-loop-k : goal.invariant-loop-k
 invariant-loop-k v =
-    (v.k ≤ v.loads) × (v.loads ≤ most_loads) × (length v.moves ≡ most_loads) × (v.unit ≡ 4 ^ v.k)
+    (v.loads ≤ most_loads) × (length v.moves ≡ most_loads) × (v.unit ≡ 4 ^ v.k)
     × ((l : Laid v.grid) (i : ℕ) → i < v.k → LoadIs l.slots i (get_or (problem_of v.book).loads i []) (moves_of v.moves i))
-
-abbrev pub decreases-loop-k : goal.decreases-loop-k
-decreases-loop-k l = l.loads - l.k

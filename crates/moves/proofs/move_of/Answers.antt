@@ -8,7 +8,8 @@ use Rattle.model.specs.Choice.{setting_of}
 use Rattle.model.specs.Trials.{cell_count}
 use Rattle.model.specs.Values.{raised}
 use Rattle.grid.specs.declared.Grid.{Grid}
-use Rattle.grid.specs.Geometry.{Laid}
+use Rattle.grid.specs.declared.SlotGrid.{SlotGrid}
+use Rattle.grid.specs.Geometry.{entry_at, Laid}
 use Rattle.grid.proofs.GeometryLaws.{back_one}
 use Rattle.moves.specs.Moves.{LoadHeld}
 use Rattle.moves.proofs.MoveLaws.{Moved, moved_none, moved_more, moved_all, back_fits, up_fits, down_fits, load_few, load_setting, load_q-small, digits_at}
@@ -21,7 +22,7 @@ inside l = omega (arith, l.is.cells_are, l.is.cells_fit)
 pub loop-t-init : goal.loop-t-init
 loop-t-init c =
     let few = load_few c.args.load c.requires.load_held in
-    (omega arith, omega (arith, c.requires.laid.is.slots_fit, c.requires.laid.is.slots_are), omega arith, refl, λ h l. moved_none l.slots (setting_of h.settings c.args.c) c.args.grid.slots _ l.is.slots_are refl)
+    (omega (arith, c.requires.laid.is.slots_fit, c.requires.laid.is.slots_are), omega arith, refl, λ h l. moved_none l.slots (setting_of h.settings c.args.c) c.args.grid.slots _ l.is.slots_are refl)
 
 pub nonzero_div-a : goal.nonzero_div-a
 nonzero_div-a c =
@@ -35,19 +36,23 @@ grid_value-b-requires c =
     let k : m.t - 1 < length c.requires.laid.slots = omega (arith, c.requires.laid.is.slots_are) in
     let e = (c.requires.laid.is.each (m.t - 1) k).step_is in
     let f = c.requires.laid.sound (m.t - 1) k in
-    (load_q-small c.args.load c.requires.load_held c.args.c m.invariant.2 (m.t - 1) (omega arith), omega (arith, e, f.step_some), omega (arith, e, f.step_small))
+    (load_q-small c.args.load c.requires.load_held c.args.c m.invariant.1 (m.t - 1) (omega arith), omega (arith, e, f.step_some), omega (arith, e, f.step_small))
+
+-- the sizes of slot t - 1
+abbrev here : (c : goal.After-grid_value-b) → SlotGrid
+here c = entry_at c.args.grid (c.loop-t.t - 1)
 
 -- one slot more
-more : (c : goal.After-grid_value-b) → (h : LoadHeld c.args.load) (l : Laid c.args.grid) → Moved l.slots (setting_of h.settings c.args.c) (c.loop-t.t - 1) (c.loop-t.back * get_or c.args.grid.tops (c.loop-t.t - 1) 0 + get_or c.args.load.actives (4 * c.args.c + (c.loop-t.t - 1)) 0 / get_or c.args.grid.steps (c.loop-t.t - 1) 0) (c.loop-t.up * get_or c.args.grid.widths (c.loop-t.t - 1) 0 + c.grid_value-b.result) (c.loop-t.down * get_or c.args.grid.widths (c.loop-t.t - 1) 0 + 32768) (set c.loop-t.active (c.loop-t.t - 1) (get_or c.args.load.actives (4 * c.args.c + (c.loop-t.t - 1)) 0 / get_or c.args.grid.steps (c.loop-t.t - 1) 0))
+more : (c : goal.After-grid_value-b) → (h : LoadHeld c.args.load) (l : Laid c.args.grid) → Moved l.slots (setting_of h.settings c.args.c) (c.loop-t.t - 1) (c.loop-t.back * (here c).top + get_or c.args.load.actives (4 * c.args.c + (c.loop-t.t - 1)) 0 / (here c).step) (c.loop-t.up * (here c).width + c.grid_value-b.result) (c.loop-t.down * (here c).width + 32768) (set c.loop-t.active (c.loop-t.t - 1) (get_or c.args.load.actives (4 * c.args.c + (c.loop-t.t - 1)) 0 / (here c).step))
 more c h l =
     let m = c.loop-t in
     let v = setting_of h.settings c.args.c in
     let k : m.t - 1 < length l.slots = omega (arith, l.is.slots_are) in
-    moved_more l.slots v (load_setting c.args.load h c.args.c m.invariant.2) (m.t - 1) k l.is.slots_fit _ _ _ m.back m.up m.down m.active
-    (digits_at c.args.load h c.args.c m.invariant.2 (m.t - 1) (omega arith) c.args.grid _ c.grid_value-b.result (l.is.each (m.t - 1) k) (l.sound (m.t - 1) k).place_is (c.grid_value-b.ensures.value ∙ ap raised c.grid_value-b.ensures.step_value))
-    (back_one (λ t. Moved l.slots v t m.back m.up m.down m.active) m.t c.loop-t-test.true (m.invariant.4 h l))
+    moved_more l.slots v (load_setting c.args.load h c.args.c m.invariant.1) (m.t - 1) k l.is.slots_fit _ _ _ m.back m.up m.down m.active
+    (digits_at c.args.load h c.args.c m.invariant.1 (m.t - 1) (omega arith) c.args.grid _ c.grid_value-b.result (l.is.each (m.t - 1) k) (l.sound (m.t - 1) k).place_is (c.grid_value-b.ensures.value ∙ ap raised c.grid_value-b.ensures.step_value))
+    (back_one (λ t. Moved l.slots v t m.back m.up m.down m.active) m.t c.loop-t-test.true (m.invariant.3 h l))
 
-fits : (c : goal.After-grid_value-b) → (c.loop-t.back * get_or c.args.grid.tops (c.loop-t.t - 1) 0 + get_or c.args.load.actives (4 * c.args.c + (c.loop-t.t - 1)) 0 / get_or c.args.grid.steps (c.loop-t.t - 1) 0 ≤ 274877906944) × (c.loop-t.up * get_or c.args.grid.widths (c.loop-t.t - 1) 0 + c.grid_value-b.result ≤ 274877906944) × (c.loop-t.down * get_or c.args.grid.widths (c.loop-t.t - 1) 0 + 32768 ≤ 274877906944)
+fits : (c : goal.After-grid_value-b) → (c.loop-t.back * (here c).top + get_or c.args.load.actives (4 * c.args.c + (c.loop-t.t - 1)) 0 / (here c).step ≤ 274877906944) × (c.loop-t.up * (here c).width + c.grid_value-b.result ≤ 274877906944) × (c.loop-t.down * (here c).width + 32768 ≤ 274877906944)
 fits c =
     let h = c.requires.load_held in
     let l = c.requires.laid in
@@ -76,11 +81,11 @@ overflow_add-down c = omega (arith, fits c)
 pub loop-t-preserved : goal.loop-t-preserved
 loop-t-preserved c =
     let m = c.loop-t in
-    (omega arith, m.invariant.1, m.invariant.2, (more c c.requires.load_held c.requires.laid).active_length, more c)
+    (m.invariant.0, m.invariant.1, (more c c.requires.load_held c.requires.laid).active_length, more c)
 
 pub returns : goal.returns
 returns c h l k e =
     let m = c.loop-t in
     let none : m.t ≡ 0 = omega arith in
     moved_all c.args.load h c.args.c c.args.unit k l.slots m.back m.up m.down m.active c.requires.least_le_c.0 c.requires.least_le_c.1 e l.is.slots_fit (inside l)
-    (subst (λ t. Moved l.slots (setting_of h.settings c.args.c) t m.back m.up m.down m.active) none (m.invariant.4 h l))
+    (subst (λ t. Moved l.slots (setting_of h.settings c.args.c) t m.back m.up m.down m.active) none (m.invariant.3 h l))

@@ -1,5 +1,5 @@
 -- `moves::move_of` meets its contract. The invariant: the numbers are those of the slots from t on.
-use Prim.Native.Nat.{◌-◌, ◌<◌, ◌≤◌}
+use Prim.Native.Nat.{◌<◌, ◌≤◌}
 use mathlib.Core.Path.{◌≡◌}
 use lib.ListN.{length}
 use Rattle.model.specs.Choice.{setting_of}
@@ -10,8 +10,5 @@ use Rattle.moves.proofs.move_of.Given as goal
 
 abbrev pub invariant-loop-t : goal.invariant-loop-t
 invariant-loop-t v =
-    (v.t ≤ v.grid.slots) × (v.grid.slots ≤ 4) × (v.c < 4) × (length v.active ≡ 4)
+    (v.grid.slots ≤ 4) × (v.c < 4) × (length v.active ≡ 4)
     × ((h : LoadHeld v.load) (l : Laid v.grid) → Moved l.slots (setting_of h.settings v.c) v.t v.back v.up v.down v.active)
-
-abbrev pub decreases-loop-t : goal.decreases-loop-t
-decreases-loop-t l = l.t

@@ -1,7 +1,6 @@
 -- `order::order_for` meets its contract: refusal 13 for either sheet, and else what the loads on them give.
 use mathlib.Core.Path.{ap, ◌∙◌}
 use lib.ListN.{length}
-use borrow.Author.Tests.{not-true, not-false}
 use Rattle.model.specs.declared.Refusal.TheVariants.{ForeignSheet}
 use Rattle.model.specs.Order.{loads_order}
 use Rattle.model.specs.Values.{problem_of}
@@ -11,22 +10,19 @@ use Rattle.order.proofs.ResultLaws.{order_same, refused-order}
 use Rattle.order.proofs.SheetsLaws.{running_foreign, planned-foreign, sheets_read}
 use Rattle.order.proofs.order_for.Goals as goal
 
-pub returns-then-not-old : goal.returns-then-not-old
-returns-then-not-old c =
+pub returns-in_default : goal.returns-in_default
+returns-in_default c =
     let a = c.args in
-    let on = c.choice_on-old in
     refused-order _ ForeignSheet a.order.now c.refused.result c.refused.ensures
     (running_foreign (problem_of a.book) (held-valid a.book c.requires) a.running.now a.planned.now a.names.now (length a.order.now)
-    on.result on.ensures (not-true _ c.if-not-old.true))
+    c.in_default.ensures)
 
-pub returns-then-not-new : goal.returns-then-not-new
-returns-then-not-new c =
+pub returns-in_default-choice_on : goal.returns-in_default-choice_on
+returns-in_default-choice_on c =
     let a = c.args in
-    let on = c.choice_on-old in
-    let next = c.choice_on-new in
-    refused-order _ ForeignSheet a.order.now c.refused-then-not-new.result c.refused-then-not-new.ensures
+    refused-order _ ForeignSheet a.order.now c.refused-in_default-choice_on.result c.refused-in_default-choice_on.ensures
     (planned-foreign (problem_of a.book) (held-valid a.book c.requires) a.running.now a.planned.now a.names.now (length a.order.now)
-    on.result on.ensures next.result next.ensures (not-false _ c.if-not-old.false) (not-true _ c.if-not-new.true))
+    _ c.in-Some.ensures c.in_default-choice_on.ensures)
 
 pub order_of-requires : goal.order_of-requires
 order_of-requires c =
@@ -35,12 +31,10 @@ order_of-requires c =
 pub returns : goal.returns
 returns c =
     let a = c.args in
-    let on = c.choice_on-old in
-    let next = c.choice_on-new in
-    let first = c.if-not-old in
-    let second = c.if-not-new in
+    let old = c.in-Some in
+    let new = c.in-Some-choice_on in
     order_same
-    (ap (λ n. loads_order n a.names.now (length a.order.now) (running_in n on.result.picks) (running_in n next.result.picks)) (held-count a.book c.requires)
+    (ap (λ n. loads_order n a.names.now (length a.order.now) (running_in n old.old.picks) (running_in n new.new.picks)) (held-count a.book c.requires)
     ∙ sheets_read (problem_of a.book) (held-valid a.book c.requires) a.running.now a.planned.now a.names.now (length a.order.now)
-    on.result on.ensures next.result next.ensures (not-false _ first.false) (not-false _ second.false))
+    _ old.ensures _ new.ensures)
     c.order_of.ensures

@@ -1,5 +1,5 @@
 -- `pass::load_pass` meets its contract. The invariant: the first `row` rows are made and counted. Nothing reaches the rows from `rows` on.
-use Prim.Native.Nat.{◌≤◌, ◌-◌, ◌*◌}
+use Prim.Native.Nat.{◌≤◌, ◌*◌}
 use mathlib.Core.Path.{◌≡◌}
 use mathlib.Core.Bool.{true}
 use Rattle.rows.specs.Row.{held}
@@ -9,10 +9,6 @@ use Rattle.pass.proofs.load_pass.Given as goal
 
 abbrev pub invariant-loop-row : goal.invariant-loop-row
 invariant-loop-row l =
-    (l.row ≤ l.rows) × (l.reached ≤ l.row * l.grid.width)
-    × (l.asked ≡ true → l.reached ≡ count_rows l.row l.grid.width (held l.work l.newlows l.newhighs l.next l.grid.width))
-    × LayerMade l.initial.work l.work l.lows l.highs l.newlows l.newhighs l.grid l.cur l.next l.load l.row × EmptyFrom l.newlows l.newhighs l.rows
-
-abbrev pub decreases-loop-row : goal.decreases-loop-row
-decreases-loop-row l =
-    l.rows - l.row
+    (l.reached ≤ l.row * l.grid.width)
+    × (l.asked ≡ true → l.reached ≡ count_rows l.row l.grid.width (held l.work l.fresh.lows l.fresh.highs l.next l.grid.width))
+    × LayerMade l.initial.work l.work l.layer.lows l.layer.highs l.fresh.lows l.fresh.highs l.grid l.cur l.next l.load l.row × EmptyFrom l.fresh.lows l.fresh.highs l.rows

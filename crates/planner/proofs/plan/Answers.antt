@@ -9,18 +9,15 @@ use Rattle.model.proofs.SheetGivenLaws.{answered_as}
 use Rattle.model.proofs.DemandLaws.{demand3}
 use Rattle.planner.proofs.plan.Goals as goal
 
-pub returns-clause-answered : goal.returns-clause-answered
-returns-clause-answered c =
+pub returns : goal.returns
+returns c =
     let a = c.args in
     let words = length a.work.now in
     let room = length a.sheet.now in
     let w : Writes (planner_result a.book.now words room) a.sheet.now _ _ = c.plan_by.ensures.result in
-    answered_as a.book.now words room _ w.answers
-
-pub returns-clause-demand : goal.returns-clause-demand
-returns-clause-demand c =
-    let a = c.args in
-    let words = length a.work.now in
-    let room = length a.sheet.now in
-    let w : Writes (planner_result a.book.now words room) a.sheet.now _ _ = c.plan_by.ensures.result in
-    λ n. subst (Demand3 a.book.now) (sym w.leaves) (demand3 a.book.now words a.sheet.now (sym (ap (λ (x : Answer). x.number) w.answers) ∙ n))
+    record {
+      result = w;
+      words = c.plan_by.ensures.words;
+      answered = answered_as a.book.now words room _ w.answers;
+      demand = λ n. subst (Demand3 a.book.now) (sym w.leaves) (demand3 a.book.now words a.sheet.now (sym (ap (λ (x : Answer). x.number) w.answers) ∙ n));
+    }

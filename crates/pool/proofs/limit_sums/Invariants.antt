@@ -1,5 +1,5 @@
 -- `pool::limit_sums` meets its contract. The invariant: the first s entries are filled.
-use Prim.Native.Nat.{◌+◌, ◌≤◌, ◌-◌}
+use Prim.Native.Nat.{◌+◌, ◌≤◌}
 use mathlib.Core.Path.{◌≡◌}
 use mathlib.Core.List.{map}
 use lib.ListN.{length, get_or, take}
@@ -8,6 +8,3 @@ use Rattle.pool.proofs.limit_sums.Given as goal
 
 abbrev pub invariant-loop-s : goal.invariant-loop-s
 invariant-loop-s l = (l.s ≤ 4) × (length l.sums ≡ 4) × (take l.s l.sums ≡ map (λ k. get_or l.a k 0 + get_or l.b k 0) (upto l.s))
-
-abbrev pub decreases-loop-s : goal.decreases-loop-s
-decreases-loop-s l = 4 - l.s

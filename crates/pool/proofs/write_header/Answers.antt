@@ -5,6 +5,7 @@ use lib.ListN.{length}
 use lib.Seq.{length-take-le}
 use Rattle.model.proofs.HeldLaws.{held-few, held_four, held-limit-small}
 use Rattle.pool.proofs.HeldPairLaws.{header_written}
+use borrow.Author.Rules.{rules}
 use native.Mathlib.Omega.{arith}
 use Rattle.pool.proofs.write_header.Goals as goal
 
@@ -33,4 +34,4 @@ returns c =
     let a = c.args in
     header_written a.a a.b c.requires.held c.requires.held_2 a.buf.now _ _ _ c.limit_sums-sums.result _ _ _ _ _
     c.write_row.ensures c.write.ensures c.write_row-2.ensures refl refl
-    c.larger-ratio.ensures c.larger-budget.ensures c.limit_sums-sums.ensures refl c.requires.slots_in_bounds
+    (search rules) (search rules) c.limit_sums-sums.ensures refl c.requires.slots_in_bounds

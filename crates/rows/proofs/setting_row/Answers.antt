@@ -4,7 +4,7 @@ use Rattle.rows.proofs.MoveLaws.{move_ends, move_rows, move_roomy, move_keys, mo
 use Rattle.rows.proofs.setting_row.Goals as goal
 
 -- where the pass begins and ends
-ends : (c : goal.Then-part) → Ends c.args.grid c.args.row c.args.mv c.part_of-part.result
+ends : (c : goal.Then-part) → Ends c.args.grid.now c.args.row c.args.mv c.part_of-part.result
 ends c =
     move_ends _ _ _ _ c.requires.grid_fits c.requires.stretches_fit c.requires.row_lt_rows c.requires.move_fits c.part_of-part.ensures c.if-part.true
 

@@ -10,10 +10,10 @@ use Rattle.scan.proofs.scan.Goals as goal
 pub loop-row-init : goal.loop-row-init
 loop-row-init c =
     let a = c.args in
-    (omega arith, rows_none (test_of a.test (problem_of a.book)) a.work.now a.lows.now a.highs.now a.cur a.grid.width)
+    rows_none (test_of a.test (problem_of a.book)) a.work.now a.layer.now.lows a.layer.now.highs a.cur a.grid.width
 
 -- the row's cells lie within the words
-room : (c : goal.After-high-1) → 2 * (c.args.cur + c.loop-row.row * c.args.grid.width + get_or c.args.highs.now c.loop-row.row 0) ≤ length c.args.work.now
+room : (c : goal.After-high-1) → 2 * (c.args.cur + c.loop-row.row * c.args.grid.width + get_or c.args.layer.now.highs c.loop-row.row 0) ≤ length c.args.work.now
 room c =
     let l = c.loop-row in
     let t = c.loop-row-test.true in
@@ -24,19 +24,17 @@ scan_row-best-requires-clause-row_coded c =
     let a = c.args in
     let l = c.loop-row in
     let t = c.loop-row-test.true in
-    row_coded (problem_of a.book) a.work.now a.lows.now a.highs.now a.grid a.cur l.row c.requires.layer_coded t (c.requires.stretches_fit.high_fits l.row t)
+    row_coded (problem_of a.book) a.work.now a.layer.now.lows a.layer.now.highs a.grid a.cur l.row c.requires.layer_coded t (c.requires.stretches_fit.high_fits l.row t)
 
 pub loop-row-preserved : goal.loop-row-preserved
 loop-row-preserved c =
     let a = c.args in
-    let l = c.loop-row in (
-      omega arith,
-      rows_more (test_of a.test (problem_of a.book)) a.work.now a.lows.now a.highs.now a.cur a.grid.width l.row l.invariant.1
-          (c.scan_row-best.ensures a.grid.width (c.requires.stretches_fit.high_fits l.row c.loop-row-test.true)),
-    )
+    let l = c.loop-row in
+    rows_more (test_of a.test (problem_of a.book)) a.work.now a.layer.now.lows a.layer.now.highs a.cur a.grid.width l.row l.invariant
+    (c.scan_row-best.ensures a.grid.width (c.requires.stretches_fit.high_fits l.row c.loop-row-test.true))
 
 pub returns : goal.returns
 returns c =
     let a = c.args in
     let l = c.loop-row in
-    rows_all (test_of a.test (problem_of a.book)) a.work.now a.lows.now a.highs.now a.grid a.cur l.row c.loop-row-test.false l.invariant.0 l.invariant.1
+    rows_all (test_of a.test (problem_of a.book)) a.work.now a.layer.now.lows a.layer.now.highs a.grid a.cur l.row c.loop-row-test.false (omega arith) l.invariant

@@ -1,6 +1,5 @@
 -- `scan::scan` meets its contract. The invariant: `best` is the best of the cells of the rows before `row` that pass.
 use mathlib.Core.Path.{◌≡◌}
-use Prim.Native.Nat.{◌-◌, ◌≤◌}
 use Rattle.model.specs.Values.{problem_of}
 use Rattle.table.specs.Table.{key_of}
 use Rattle.scan.specs.Scan.{test_of}
@@ -9,7 +8,4 @@ use Rattle.scan.proofs.scan.Given as goal
 
 abbrev pub invariant-loop-row : goal.invariant-loop-row
 invariant-loop-row l =
-    (l.row ≤ l.rows) × (key_of l.best ≡ best_of_rows (test_of l.test (problem_of l.book)) l.work l.lows l.highs l.cur l.width l.row)
-
-abbrev pub decreases-loop-row : goal.decreases-loop-row
-decreases-loop-row l = l.rows - l.row
+    (key_of l.best ≡ best_of_rows (test_of l.test (problem_of l.book)) l.work l.layer.lows l.layer.highs l.cur l.width l.row)

@@ -5,8 +5,8 @@ use Rattle.search.proofs.ModelLaws.{width_in}
 use Rattle.search.proofs.RunLaws.{empty-first, origin_in, origin_room, run_first, set_first, set_long, places_from, past_words_kept}
 use Rattle.search.proofs.search.Goals as goal
 
-pub overflow_add-highs : goal.overflow_add-highs
-overflow_add-highs c = let m = c.requires.modelled in omega (arith, origin_in m, width_in m, m.grid_is.cells_fit)
+pub overflow_add-first : goal.overflow_add-first
+overflow_add-first c = let m = c.requires.modelled in omega (arith, origin_in m, width_in m, m.grid_is.cells_fit)
 
 pub start-requires : goal.start-requires
 start-requires c = origin_room c.requires.modelled c.args.work.now c.requires.cells_in_bounds

@@ -25,7 +25,7 @@ small : (c : goal.In-loop-k) → c.loop-k.mask < 16777216
 small c =
     let l = c.loop-k in
     let a = c.args in
-    omega (arith, l.invariant.2, mask_below (running_in a.count a.picks) (suc l.k) (a.count - l.k) most_loads (omega (arith, l.invariant.1)))
+    omega (arith, l.invariant.1, mask_below (running_in a.count a.picks) (suc l.k) (a.count - l.k) most_loads (omega (arith, l.invariant.0)))
 
 pub overflow_mul-mask : goal.overflow_mul-mask
 overflow_mul-mask c = omega (arith, small c)
@@ -40,4 +40,4 @@ returns c =
     let a = c.args in
     let first : suc l.k ≡ 1 = omega arith in
     let all : a.count - l.k ≡ a.count = omega arith in
-    l.invariant.2 ∙ ap₂ (mask_from (running_in a.count a.picks)) first all
+    l.invariant.1 ∙ ap₂ (mask_from (running_in a.count a.picks)) first all

@@ -7,7 +7,4 @@ use Rattle.starts.specs.Places.{running_in}
 use Rattle.starts.proofs.running_mask.Given as goal
 
 abbrev pub invariant-loop-k : goal.invariant-loop-k
-invariant-loop-k l = (l.k ≤ l.count) × (l.count ≤ most_loads) × (l.mask ≡ mask_from (running_in l.count l.picks) (suc l.k) (l.count - l.k))
-
-abbrev pub decreases-loop-k : goal.decreases-loop-k
-decreases-loop-k l = l.k
+invariant-loop-k l = (l.count ≤ most_loads) × (l.mask ≡ mask_from (running_in l.count l.picks) (suc l.k) (l.count - l.k))

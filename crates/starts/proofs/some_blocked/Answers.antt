@@ -1,7 +1,6 @@
 -- `starts::some_blocked` meets its contract. The invariant: none of the loads before place k is blocked.
 use mathlib.Core.Path.{sym, ◌∙◌}
-use mathlib.Core.Bool.{false}
-use Prim.Native.Nat.{suc, ◌-◌}
+use Prim.Native.Nat.{suc}
 use native.Mathlib.Omega.{arith}
 use Rattle.model.proofs.UptoLaws.{any-more}
 use Rattle.starts.proofs.PlaceLaws.{barred, barred_is, blocked-some, blocked-none}
@@ -16,14 +15,12 @@ returns-then-blocked_at c =
 pub loop-k-preserved : goal.loop-k-preserved
 loop-k-preserved c =
     let a = c.args in
-    let l = c.loop-k in (
-      omega arith,
-      any-more suc (barred a.running a.planned a.names.now) l.k l.invariant.1
-          (barred_is a.running a.planned a.names.now c.requires l.k (omega arith) ∙ sym c.blocked_at.ensures ∙ c.if-blocked_at.false),
-    )
+    let l = c.loop-k in
+    any-more suc (barred a.running a.planned a.names.now) l.k l.invariant
+    (barred_is a.running a.planned a.names.now c.requires l.k (omega arith) ∙ sym c.blocked_at.ensures ∙ c.if-blocked_at.false)
 
 pub returns : goal.returns
 returns c =
     let a = c.args in
     let l = c.loop-k in
-    blocked-none a.running a.planned a.names.now c.requires l.k (omega arith) l.invariant.1
+    blocked-none a.running a.planned a.names.now c.requires l.k (omega arith) l.invariant

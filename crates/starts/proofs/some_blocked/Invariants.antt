@@ -2,14 +2,10 @@
 use mathlib.Core.Path.{◌≡◌}
 use mathlib.Core.Bool.{false}
 use mathlib.Core.List.{map}
-use Prim.Native.Nat.{suc, ◌-◌, ◌≤◌}
-use lib.ListN.{length}
+use Prim.Native.Nat.{suc}
 use Rattle.model.specs.Lists.{upto, any}
 use Rattle.starts.proofs.PlaceLaws.{barred}
 use Rattle.starts.proofs.some_blocked.Given as goal
 
 abbrev pub invariant-loop-k : goal.invariant-loop-k
-invariant-loop-k l = (l.k ≤ length l.names) × (any (barred l.running l.planned l.names) (map suc (upto l.k)) ≡ false)
-
-abbrev pub decreases-loop-k : goal.decreases-loop-k
-decreases-loop-k l = length l.names - l.k
+invariant-loop-k l = any (barred l.running l.planned l.names) (map suc (upto l.k)) ≡ false

@@ -1,7 +1,6 @@
 -- `starts::wrong_names` meets its contract. The invariant: none of the names before k is bad.
 use mathlib.Core.Path.{sym, ◌∙◌}
-use mathlib.Core.Bool.{false}
-use Prim.Native.Nat.{suc, ◌-◌}
+use Prim.Native.Nat.{suc}
 use native.Mathlib.Omega.{arith}
 use Rattle.model.specs.Order.{bad_name}
 use Rattle.model.proofs.UptoLaws.{any-more}
@@ -23,11 +22,11 @@ pub loop-k-preserved : goal.loop-k-preserved
 loop-k-preserved c =
     let a = c.args in
     let l = c.loop-k in
-    (omega arith, any-more suc (bad_name a.count a.names.now) l.k l.invariant.1 (sym c.bad_name.ensures ∙ c.if-bad_name.false))
+    any-more suc (bad_name a.count a.names.now) l.k l.invariant (sym c.bad_name.ensures ∙ c.if-bad_name.false)
 
 pub returns : goal.returns
 returns c =
     let a = c.args in
     let l = c.loop-k in
     let same = c.if-names-count.false in
-    names_good a.count a.names.now l.k same (omega (arith, same)) l.invariant.1
+    names_good a.count a.names.now l.k same (omega (arith, same)) l.invariant

@@ -7,29 +7,17 @@ use Rattle.model.specs.Strict.{strict_result, NeverAbove}
 use Rattle.model.proofs.StrictGivenLaws.{strict_answered_as, never_above, no_margin}
 use Rattle.strict.proofs.plan_strict.Goals as goal
 
-pub returns-clause-answered : goal.returns-clause-answered
-returns-clause-answered c =
+pub returns : goal.returns
+returns c =
     let a = c.args in
     let words = length a.work.now in
     let room = length a.sheet.now in
     let w : Writes (strict_result a.book.now words room) a.sheet.now _ _ = c.plan_by.ensures.result in
     let e = ap (λ (x : Answer). x.number) w.answers in
-    strict_answered_as a.book.now words room _ w.answers
-
-pub returns-clause-keeps : goal.returns-clause-keeps
-returns-clause-keeps c =
-    let a = c.args in
-    let words = length a.work.now in
-    let room = length a.sheet.now in
-    let w : Writes (strict_result a.book.now words room) a.sheet.now _ _ = c.plan_by.ensures.result in
-    let e = ap (λ (x : Answer). x.number) w.answers in
-    λ n. subst (NeverAbove a.book.now words room) (sym w.leaves) (never_above a.book.now words a.sheet.now (sym e ∙ n))
-
-pub returns-clause-margin : goal.returns-clause-margin
-returns-clause-margin c =
-    let a = c.args in
-    let words = length a.work.now in
-    let room = length a.sheet.now in
-    let w : Writes (strict_result a.book.now words room) a.sheet.now _ _ = c.plan_by.ensures.result in
-    let e = ap (λ (x : Answer). x.number) w.answers in
-    λ n. no_margin a.book.now words room (sym e ∙ n)
+    record {
+      result = w;
+      words = c.plan_by.ensures.words;
+      answered = strict_answered_as a.book.now words room _ w.answers;
+      keeps = λ n. subst (NeverAbove a.book.now words room) (sym w.leaves) (never_above a.book.now words a.sheet.now (sym e ∙ n));
+      margin = λ n. no_margin a.book.now words room (sym e ∙ n);
+    }

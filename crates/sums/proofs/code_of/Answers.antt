@@ -1,7 +1,6 @@
 -- `sums::code_of` meets its contract. The invariant: the code is that of the loads from k on.
 use mathlib.Core.Path.{◌≡◌, sym, ap, ◌∙◌}
 use Prim.Native.Nat.{◌-◌}
-use borrow.Author.Rules.{rules}
 use native.Mathlib.Omega.{arith}
 use Rattle.model.proofs.HeldLaws.{held-few}
 use Rattle.sums.proofs.PickLaws.{code_from, held_pick, held-code-small, held-code}
@@ -10,7 +9,7 @@ use Rattle.sums.proofs.code_of.Goals as goal
 pub loop-k-init : goal.loop-k-init
 loop-k-init c =
     let none : c.args.book.count - c.args.book.count ≡ 0 = omega arith in
-    (search rules, held-few c.args.book c.requires.held, sym (ap (code_from c.args.picks c.args.book.count) none))
+    (held-few c.args.book c.requires.held, sym (ap (code_from c.args.picks c.args.book.count) none))
 
 pub overflow_mul-code : goal.overflow_mul-code
 overflow_mul-code c =
@@ -24,4 +23,4 @@ overflow_add-code c =
 
 pub returns : goal.returns
 returns c =
-    c.loop-k.invariant.2 ∙ held-code c.args.book c.requires.held c.args.picks c.requires.picked c.loop-k.k (omega arith)
+    c.loop-k.invariant.1 ∙ held-code c.args.book c.requires.held c.args.picks c.requires.picked c.loop-k.k (omega arith)

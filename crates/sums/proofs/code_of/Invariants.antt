@@ -6,7 +6,4 @@ use Rattle.sums.proofs.PickLaws.{code_from}
 use Rattle.sums.proofs.code_of.Given as goal
 
 abbrev pub invariant-loop-k : goal.invariant-loop-k
-invariant-loop-k l = (l.k ≤ l.initial.k) × (l.initial.k ≤ most_loads) × (l.code ≡ code_from l.picks l.k (l.initial.k - l.k))
-
-abbrev pub decreases-loop-k : goal.decreases-loop-k
-decreases-loop-k l = l.k
+invariant-loop-k l = (l.initial.k ≤ most_loads) × (l.code ≡ code_from l.picks l.k (l.initial.k - l.k))

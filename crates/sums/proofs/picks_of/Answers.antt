@@ -13,8 +13,7 @@ loop-k-preserved c =
     let a = c.args in
     let l = c.loop-k in
     let e : a.count - l.k ≡ suc (a.count - (l.k + 1)) = omega arith in (
-      omega arith,
-      length-set l.picks l.k _ ∙ l.invariant.1,
+      length-set l.picks l.k _ ∙ l.invariant.0,
       decode-more l.picks l.k (a.count - (l.k + 1)) l.rest (decode a.count a.code) (omega arith)
-          (sym (ap (λ n. take l.k l.picks ++ decode n l.rest) e) ∙ l.invariant.2),
+          (sym (ap (λ n. take l.k l.picks ++ decode n l.rest) e) ∙ l.invariant.1),
     )

@@ -1,5 +1,5 @@
 -- `sums::picks_of` meets its contract. The invariant: the digits so far, and then those of the rest.
-use Prim.Native.Nat.{◌-◌, ◌≤◌}
+use Prim.Native.Nat.{◌-◌}
 use mathlib.Core.Path.{◌≡◌}
 use mathlib.Core.List.{◌++◌}
 use lib.ListN.{length, take}
@@ -8,7 +8,4 @@ use Rattle.model.specs.Choice.{decode}
 use Rattle.sums.proofs.picks_of.Given as goal
 
 abbrev pub invariant-loop-k : goal.invariant-loop-k
-invariant-loop-k l = (l.k ≤ l.count) × (length l.picks ≡ most_loads) × (take l.k l.picks ++ decode (l.count - l.k) l.rest ≡ decode l.count l.code)
-
-abbrev pub decreases-loop-k : goal.decreases-loop-k
-decreases-loop-k l = l.count - l.k
+invariant-loop-k l = (length l.picks ≡ most_loads) × (take l.k l.picks ++ decode (l.count - l.k) l.rest ≡ decode l.count l.code)

@@ -9,4 +9,4 @@ unfolding shifted
 returns c =
     let l = c.loop-s in
     let a = c.args in
-    fill_all (shifted_in a.sums a.powers a.c a.less a.from) l.next 4 l.s l.invariant.1 (omega arith) (omega arith) l.invariant.2
+    fill_all (shifted_in a.sums a.powers a.c a.less a.from) l.next 4 l.s l.invariant.0 (omega arith) (omega arith) l.invariant.1

@@ -8,18 +8,18 @@ use Rattle.sums.proofs.PickLaws.{held_can_add, held-sums, held_all}
 use Rattle.sums.proofs.sums_of.Goals as goal
 
 pub loop-k-init : goal.loop-k-init
-loop-k-init c = (search rules, held-few c.args.book c.requires.held, c.none-sums.ensures)
+loop-k-init c = (held-few c.args.book c.requires.held, c.none-sums.ensures)
 
 pub plus-sums-requires : goal.plus-sums-requires
 plus-sums-requires c =
     let l = c.loop-k in
-    held_can_add c.args.book c.requires.held c.args.picks c.requires.picked l.k _ (omega arith) l.sums l.invariant.2
+    held_can_add c.args.book c.requires.held c.args.picks c.requires.picked l.k _ (omega arith) l.sums l.invariant.1
 
 pub loop-k-preserved : goal.loop-k-preserved
 loop-k-preserved c =
     let l = c.loop-k in
-    (search rules, search rules, c.plus-sums.ensures ∙ held-sums c.args.book c.requires.held c.args.picks c.requires.picked l.k _ (omega arith) l.sums l.invariant.2)
+    (search rules, c.plus-sums.ensures ∙ held-sums c.args.book c.requires.held c.args.picks c.requires.picked l.k _ (omega arith) l.sums l.invariant.1)
 
 pub returns : goal.returns
 returns c =
-    c.loop-k.invariant.2 ∙ held_all c.args.book c.requires.held c.args.picks c.requires.picked sums_value c.loop-k.k (omega arith)
+    c.loop-k.invariant.1 ∙ held_all c.args.book c.requires.held c.args.picks c.requires.picked sums_value c.loop-k.k (omega arith)

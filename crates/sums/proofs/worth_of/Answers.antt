@@ -8,7 +8,7 @@ use Rattle.sums.proofs.PickLaws.{held_pick, held-worth, held-worth-small, held_a
 use Rattle.sums.proofs.worth_of.Goals as goal
 
 pub loop-k-init : goal.loop-k-init
-loop-k-init c = (search rules, held-few c.args.book c.requires.held, refl)
+loop-k-init c = (held-few c.args.book c.requires.held, refl)
 
 pub offset_bounds-load-c : goal.offset_bounds-load-c
 offset_bounds-load-c c =
@@ -21,13 +21,13 @@ bounds-load-c c =
 pub overflow_add-worth : goal.overflow_add-worth
 overflow_add-worth c =
     let l = c.loop-k in
-    omega (arith, held-worth c.args.book c.requires.held c.args.picks c.requires.picked l.k no_load (omega arith) l.worth l.invariant.2, held-worth-small c.args.book c.requires.held c.args.picks c.requires.picked l.k no_load (omega arith))
+    omega (arith, held-worth c.args.book c.requires.held c.args.picks c.requires.picked l.k no_load (omega arith) l.worth l.invariant.1, held-worth-small c.args.book c.requires.held c.args.picks c.requires.picked l.k no_load (omega arith))
 
 pub loop-k-preserved : goal.loop-k-preserved
 loop-k-preserved c =
     let l = c.loop-k in
-    (search rules, search rules, held-worth c.args.book c.requires.held c.args.picks c.requires.picked l.k no_load (omega arith) l.worth l.invariant.2)
+    (search rules, held-worth c.args.book c.requires.held c.args.picks c.requires.picked l.k no_load (omega arith) l.worth l.invariant.1)
 
 pub returns : goal.returns
 returns c =
-    c.loop-k.invariant.2 ∙ held_all c.args.book c.requires.held c.args.picks c.requires.picked worth_of c.loop-k.k (omega arith)
+    c.loop-k.invariant.1 ∙ held_all c.args.book c.requires.held c.args.picks c.requires.picked worth_of c.loop-k.k (omega arith)

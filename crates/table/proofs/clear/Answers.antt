@@ -6,4 +6,4 @@ use Rattle.table.proofs.clear.Goals as goal
 
 pub loop-j-preserved : goal.loop-j-preserved
 unfolding empty no_cell
-loop-j-preserved c = (omega arith, filled_more c.loop-j.invariant.1 (omega arith) c.put.ensures)
+loop-j-preserved c = filled_more c.loop-j.invariant (omega arith) c.put.ensures

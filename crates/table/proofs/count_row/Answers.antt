@@ -4,4 +4,4 @@ use Rattle.table.proofs.WordLaws.{counted-more}
 use Rattle.table.proofs.count_row.Goals as goal
 
 pub loop-j-preserved : goal.loop-j-preserved
-loop-j-preserved c = (omega arith, omega arith, search counted-more)
+loop-j-preserved c = (omega arith, search counted-more)

@@ -1,12 +1,9 @@
 -- `table::count_row` meets its contract. The invariant: `count` is the number of reached cells among the first j.
-use Prim.Native.Nat.{◌≤◌, ◌-◌}
+use Prim.Native.Nat.{◌≤◌}
 use mathlib.Core.Path.{◌≡◌}
 use Rattle.model.specs.Cells.{count_upto}
 use Rattle.table.specs.Table.{reached}
 use Rattle.table.proofs.count_row.Given as goal
 
 abbrev pub invariant-loop-j : goal.invariant-loop-j
-invariant-loop-j l = (l.j ≤ l.len) × (l.count ≤ l.j) × (l.count ≡ count_upto l.j (reached l.work l.at))
-
-abbrev pub decreases-loop-j : goal.decreases-loop-j
-decreases-loop-j l = l.len - l.j
+invariant-loop-j l = (l.count ≤ l.j) × (l.count ≡ count_upto l.j (reached l.work l.at))

@@ -6,20 +6,14 @@ use Rattle.model.proofs.AnswerLaws.{writes-same}
 use Rattle.views.proofs.ReadLaws.{refused_view, accepted_then}
 use Rattle.views.proofs.mill_view.Goals as goal
 
-pub returns-then-answer-ne0 : goal.returns-then-answer-ne0
+pub returns-in-Ok : goal.returns-in-Ok
 unfolding mill_result
-returns-then-answer-ne0 c =
+returns-in-Ok c =
     let a = c.args in
-    let r = c.read-reading in
-    refused_view a.book.now a.sheet.now r.result (λ x. in_room (mill_line x.choice) (length a.view.now))
-    (r.ensures.refuses c.if-answer-ne0.true) a.view.now
+    writes-same (accepted_then a.book.now a.sheet.now (λ x. in_room (mill_line x.choice) (length a.view.now)) _ c.in-Ok.ensures) c.mill_of.ensures
 
-pub returns : goal.returns
+pub returns-in-Err : goal.returns-in-Err
 unfolding mill_result
-returns c =
+returns-in-Err c =
     let a = c.args in
-    let r = c.read-reading in
-    writes-same
-    (accepted_then a.book.now a.sheet.now r.result (λ x. in_room (mill_line x.choice) (length a.view.now))
-    (r.ensures.accepts c.if-answer-ne0.false))
-    c.mill_of.ensures
+    refused_view a.book.now a.sheet.now (λ x. in_room (mill_line x.choice) (length a.view.now)) c.in-Err.refused c.in-Err.ensures a.view.now _ c.from.ensures

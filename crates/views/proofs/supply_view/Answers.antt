@@ -5,22 +5,14 @@ use Rattle.model.proofs.AnswerLaws.{writes-same}
 use Rattle.views.proofs.ReadLaws.{refused_view, accepted_then}
 use Rattle.views.proofs.supply_view.Goals as goal
 
-pub returns-then-answer-ne0-clause-result : goal.returns-then-answer-ne0-clause-result
+pub returns-in-Ok-clause-result : goal.returns-in-Ok-clause-result
 unfolding supply_result
-returns-then-answer-ne0-clause-result c =
+returns-in-Ok-clause-result c =
     let a = c.args in
-    let r = c.read-reading in
-    let w = refused_view a.book.now a.sheet.now r.result (λ x. supply_view (sums_and_limits_on x) (length a.view.now))
-    (r.ensures.refuses c.if-answer-ne0.true) a.view.now in
-    w
+    writes-same (accepted_then a.book.now a.sheet.now (λ x. supply_view (sums_and_limits_on x) (length a.view.now)) _ c.in-Ok.ensures) c.supply_of.ensures
 
-pub returns-clause-result : goal.returns-clause-result
+pub returns-in-Err-clause-result : goal.returns-in-Err-clause-result
 unfolding supply_result
-returns-clause-result c =
+returns-in-Err-clause-result c =
     let a = c.args in
-    let r = c.read-reading in
-    let w = writes-same
-    (accepted_then a.book.now a.sheet.now r.result (λ x. supply_view (sums_and_limits_on x) (length a.view.now))
-    (r.ensures.accepts c.if-answer-ne0.false))
-    c.supply_of.ensures in
-    w
+    refused_view a.book.now a.sheet.now (λ x. supply_view (sums_and_limits_on x) (length a.view.now)) c.in-Err.refused c.in-Err.ensures a.view.now _ c.from.ensures

@@ -1,12 +1,11 @@
 -- `views::write_loads` meets its contract. The invariant: the loads passed are written.
 use Prim.Native.Nat.{suc, ◌+◌}
-use mathlib.Core.Path.{refl, sym, ap, ◌∙◌}
+use mathlib.Core.Path.{sym, ap, ◌∙◌}
 use lib.ListN.{length, get_or}
 use Rattle.hexadecimal.specs.Written.{written}
 use Rattle.hexadecimal.proofs.WrittenLaws.{written_none, write_on}
 use Rattle.views.specs.MillLine.{load_bytes, loads_bytes}
 use Rattle.views.proofs.MillLaws.{loads-none, loads-more, length_more, loads-within}
-use borrow.Author.Rules.{rules}
 use native.Mathlib.Omega.{arith}
 use Rattle.views.proofs.write_loads.Goals as goal
 
@@ -14,7 +13,7 @@ pub loop-k-init : goal.loop-k-init
 loop-k-init c =
     let a = c.args in
     let none = loads-none a.picks in
-    (search rules, refl, omega (arith, ap length none), sym (ap (written a.view.now a.at) none ∙ written_none a.view.now a.at))
+    (omega (arith, ap length none), sym (ap (written a.view.now a.at) none ∙ written_none a.view.now a.at))
 
 pub write_load-next-requires-clause-level_in_bounds : goal.write_load-next-requires-clause-level_in_bounds
 write_load-next-requires-clause-level_in_bounds c =
@@ -28,11 +27,9 @@ loop-k-preserved c =
     let w = c.write_load-next in
     let more = length_more a.picks l.k in
     let fits = loads-within a.picks (l.k + 1) a.count (omega arith) in (
-      omega arith,
-      omega arith,
-      c.write_load-next.ensures.next ∙ (omega (arith, l.invariant.2)),
+      c.write_load-next.ensures.next ∙ (omega (arith, l.invariant.0)),
       c.write_load-next.ensures.bytes
-          ∙ write_on a.view.now l.view a.at l.next (loads_bytes a.picks l.k) (load_bytes (suc l.k) (get_or a.picks l.k 0)) l.invariant.3 l.invariant.2
-          (omega (arith, c.requires.count_in_bounds, l.invariant.2))
+          ∙ write_on a.view.now l.view a.at l.next (loads_bytes a.picks l.k) (load_bytes (suc l.k) (get_or a.picks l.k 0)) l.invariant.1 l.invariant.0
+          (omega (arith, c.requires.count_in_bounds, l.invariant.0))
           ∙ ap (written a.view.now a.at) (sym (loads-more a.picks l.k)),
     )

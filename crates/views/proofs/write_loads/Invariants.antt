@@ -1,5 +1,5 @@
 -- `views::write_loads` meets its contract. The invariant: the loads passed are written.
-use Prim.Native.Nat.{◌+◌, ◌-◌, ◌≤◌}
+use Prim.Native.Nat.{◌+◌}
 use mathlib.Core.Path.{◌≡◌}
 use lib.ListN.{length}
 use Rattle.hexadecimal.specs.Written.{written}
@@ -7,8 +7,4 @@ use Rattle.views.specs.MillLine.{loads_bytes}
 use Rattle.views.proofs.write_loads.Given as goal
 
 abbrev pub invariant-loop-k : goal.invariant-loop-k
-invariant-loop-k l =
-    (l.k ≤ l.count) × (length l.view ≡ length l.initial.view) × (l.next ≡ l.at + length (loads_bytes l.picks l.k)) × (l.view ≡ written l.initial.view l.at (loads_bytes l.picks l.k))
-
-abbrev pub decreases-loop-k : goal.decreases-loop-k
-decreases-loop-k l = l.count - l.k
+invariant-loop-k l = (l.next ≡ l.at + length (loads_bytes l.picks l.k)) × (l.view ≡ written l.initial.view l.at (loads_bytes l.picks l.k))
