@@ -6,6 +6,10 @@ use model::Answer;
 use std::io;
 use std::io::Print;
 
+// Document 01's example.
+const EXAMPLE: &[u8] =
+    b"0101030400000064000A\n0201000500050005\n020100050004FFFC\n0201000400040000\n";
+
 fn print(rt: &impl Print, text: &[u8]) -> io::Result<()> {
     rt.write_all(text)
 }
@@ -75,49 +79,36 @@ fn reader_case(rt: &impl Print, name: &[u8], book: &[u8], sheet: &[u8]) -> io::R
     print(rt, b"\n")
 }
 
-// A book that the quick planner refuses; the buffer stays as it is.
-fn refused_case(rt: &impl Print, name: &[u8], book: &[u8]) -> io::Result<()> {
-    let mut sheet = [46u8; 60];
-    quick_case(rt, name, book, &mut sheet)
+// Books that the quick planner refuses; the buffer stays as it is.
+fn refused_cases(rt: &impl Print, cases: &[(&[u8], &[u8])]) -> io::Result<()> {
+    for (name, book) in cases {
+        let mut sheet = [46u8; 60];
+        quick_case(rt, name, book, &mut sheet)?;
+    }
+    Ok(())
 }
 
-// Refusals 1 to 3.
-fn unreadable_books(rt: &impl Print) -> io::Result<()> {
-    refused_case(rt, b"torn, empty", b"")?;
-    refused_case(
+// Refusals 1 to 8.
+fn refused_books(rt: &impl Print) -> io::Result<()> {
+    refused_cases(
         rt,
-        b"torn, load line",
-        b"010102010000006400FF\n0201000300630000\n0201000300630000",
-    )?;
-    refused_case(rt, b"smudged", b"0101020100000064006g\n")?;
-    refused_case(rt, b"stray, empty line", b"\n")?;
-    refused_case(
-        rt,
-        b"stray, kind",
-        b"010101010000006400FF\n0301000300630000\n",
-    )
-}
-
-// Refusals 4 and 5.
-fn misshapen_books(rt: &impl Print) -> io::Result<()> {
-    refused_case(rt, b"crowded, T", b"0105010100000064000A000A000A000A000A\n")?;
-    refused_case(
-        rt,
-        b"crowded, o",
-        b"010101010000006400FF\n0204000300630000\n",
-    )?;
-    refused_case(rt, b"misshapen", b"010101010000006400FF\n020100030063000\n")
-}
-
-// Refusals 6 to 8.
-fn invalid_books(rt: &impl Print) -> io::Result<()> {
-    refused_case(rt, b"beyond, N", b"01011901000000640064\n")?;
-    refused_case(rt, b"beyond, d", b"01010141000000640064\n")?;
-    refused_case(rt, b"slack", b"01010101000000640064\n020100010004FFFB\n")?;
-    refused_case(
-        rt,
-        b"trailing",
-        b"01010101000000640064\n020100010004FFFC\n\n",
+        &[
+            (b"torn, empty", b""),
+            (
+                b"torn, load line",
+                b"010102010000006400FF\n0201000300630000\n0201000300630000",
+            ),
+            (b"smudged", b"0101020100000064006g\n"),
+            (b"stray, empty line", b"\n"),
+            (b"stray, kind", b"010101010000006400FF\n0301000300630000\n"),
+            (b"crowded, T", b"0105010100000064000A000A000A000A000A\n"),
+            (b"crowded, o", b"010101010000006400FF\n0204000300630000\n"),
+            (b"misshapen", b"010101010000006400FF\n020100030063000\n"),
+            (b"beyond, N", b"01011901000000640064\n"),
+            (b"beyond, d", b"01010141000000640064\n"),
+            (b"slack", b"01010101000000640064\n020100010004FFFB\n"),
+            (b"trailing", b"01010101000000640064\n020100010004FFFC\n\n"),
+        ],
     )
 }
 
@@ -148,12 +139,7 @@ fn refused_plans(rt: &impl Print) -> io::Result<()> {
         b"oversize",
         b"0102014000000064FFFFFFFF\n020100010001000000010000\n",
     )?;
-    plan_with_less(
-        rt,
-        b"cramped",
-        b"0101030400000064000A\n0201000500050005\n020100050004FFFC\n0201000400040000\n",
-        &mut sheet,
-    )
+    plan_with_less(rt, b"cramped", EXAMPLE, &mut sheet)
 }
 
 // The same with a budget of one trial less than the example takes.
@@ -171,34 +157,28 @@ fn refused_budgets(rt: &impl Print) -> io::Result<()> {
 fn plans(rt: &impl Print) -> io::Result<()> {
     let mut work = [77u64; 1056];
     let mut sheet = [46u8; 60];
-    plan_case(
-        rt,
-        b"budget 14",
-        b"010103040000000E000A\n0201000500050005\n020100050004FFFC\n0201000400040000\n",
-        &mut work,
-        &mut sheet,
-    )?;
-    plan_case(
-        rt,
-        b"both run",
-        b"01010201000000640064\n0201000300630000\n0201000300630000\n",
-        &mut work,
-        &mut sheet,
-    )?;
-    plan_case(
-        rt,
-        b"the smaller code",
-        b"01010201000000640064\n0201000300640000\n0201000300640000\n",
-        &mut work,
-        &mut sheet,
-    )?;
-    plan_case(
-        rt,
-        b"limit 0",
-        b"01010201000000640000\n0201000100000000\n0201000100010000\n",
-        &mut work,
-        &mut sheet,
-    )
+    let cases: [(&[u8], &[u8]); 4] = [
+        (
+            b"budget 14",
+            b"010103040000000E000A\n0201000500050005\n020100050004FFFC\n0201000400040000\n",
+        ),
+        (
+            b"both run",
+            b"01010201000000640064\n0201000300630000\n0201000300630000\n",
+        ),
+        (
+            b"the smaller code",
+            b"01010201000000640064\n0201000300640000\n0201000300640000\n",
+        ),
+        (
+            b"limit 0",
+            b"01010201000000640000\n0201000100000000\n0201000100010000\n",
+        ),
+    ];
+    for (name, book) in cases {
+        plan_case(rt, name, book, &mut work, &mut sheet)?;
+    }
+    Ok(())
 }
 
 // Loads that draw where they stand, of lines of kind 06: more than the limit in every choice, with the budget that the trials take and one less;
@@ -262,17 +242,20 @@ fn ratio_plans(rt: &impl Print) -> io::Result<()> {
     let book = b"080102040300000064000A\n020100050004000C\n020100050004FFF4\n";
     plan_case(rt, b"they cancel", book, &mut work, &mut sheet)?;
     quick_case(rt, b"they cancel", book, &mut sheet)?;
-    refused_case(
+    refused_cases(
         rt,
-        b"slack, kind 01",
-        b"0101020400000064000A\n020100050004000C\n020100050004FFF4\n",
-    )?;
-    refused_case(rt, b"beyond, r", b"0801010104000000640064\n")?;
-    refused_case(rt, b"misshapen, kind 08", b"08010101030000640064\n")?;
-    refused_case(
-        rt,
-        b"slack, r = 3",
-        b"0801010103000000640064\n020100010004FFF3\n",
+        &[
+            (
+                b"slack, kind 01",
+                b"0101020400000064000A\n020100050004000C\n020100050004FFF4\n",
+            ),
+            (b"beyond, r", b"0801010104000000640064\n"),
+            (b"misshapen, kind 08", b"08010101030000640064\n"),
+            (
+                b"slack, r = 3",
+                b"0801010103000000640064\n020100010004FFF3\n",
+            ),
+        ],
     )
 }
 
@@ -303,72 +286,55 @@ fn refused_strictly(rt: &impl Print) -> io::Result<()> {
     strict_case(rt, b"too coarse", coarse, &mut cramped, &mut sheet)
 }
 
-// The sheet reader on document 01's example and a sheet.
-fn example_case(rt: &impl Print, name: &[u8], sheet: &[u8]) -> io::Result<()> {
-    reader_case(
-        rt,
-        name,
-        b"0101030400000064000A\n0201000500050005\n020100050004FFFC\n0201000400040000\n",
-        sheet,
-    )
-}
-
-// Sheets that belong to the book.
-fn own_sheets(rt: &impl Print) -> io::Result<()> {
-    example_case(
-        rt,
-        b"quick sheet",
-        b"040000000900000003000101\n0500000008FFFFFFFC000A\n",
-    )?;
-    example_case(
-        rt,
-        b"plan",
-        b"040000000A0000000E010100\n050000000900000001000A\n",
-    )
-}
-
-// Sheets that do not.
-fn foreign_sheets(rt: &impl Print) -> io::Result<()> {
-    example_case(
-        rt,
-        b"foreign, c above o",
-        b"040000000A0000000E020100\n050000000900000001000A\n",
-    )?;
-    example_case(
-        rt,
-        b"foreign, sum",
-        b"040000000A0000000E010100\n050000000800000001000A\n",
-    )?;
-    example_case(
-        rt,
-        b"foreign, worth",
-        b"040000000B0000000E010100\n050000000900000001000A\n",
-    )?;
-    example_case(
-        rt,
-        b"foreign, short",
-        b"040000000A0000000E010100\n050000000900000001000A",
-    )?;
-    example_case(
-        rt,
-        b"foreign, long",
-        b"040000000A0000000E010100\n050000000900000001000A\n\n",
-    )
+// Sheets that belong to the book, and sheets that do not.
+fn sheets(rt: &impl Print) -> io::Result<()> {
+    let cases: [(&[u8], &[u8]); 7] = [
+        (
+            b"quick sheet",
+            b"040000000900000003000101\n0500000008FFFFFFFC000A\n",
+        ),
+        (
+            b"plan",
+            b"040000000A0000000E010100\n050000000900000001000A\n",
+        ),
+        (
+            b"foreign, c above o",
+            b"040000000A0000000E020100\n050000000900000001000A\n",
+        ),
+        (
+            b"foreign, sum",
+            b"040000000A0000000E010100\n050000000800000001000A\n",
+        ),
+        (
+            b"foreign, worth",
+            b"040000000B0000000E010100\n050000000900000001000A\n",
+        ),
+        (
+            b"foreign, short",
+            b"040000000A0000000E010100\n050000000900000001000A",
+        ),
+        (
+            b"foreign, long",
+            b"040000000A0000000E010100\n050000000900000001000A\n\n",
+        ),
+    ];
+    for (name, sheet) in cases {
+        reader_case(rt, name, EXAMPLE, sheet)?;
+    }
+    Ok(())
 }
 
 // The quick planner on document 01's example, with a buffer that is too small and with a larger one.
 fn quick_sheets(rt: &impl Print) -> io::Result<()> {
-    let book = b"0101030400000064000A\n0201000500050005\n020100050004FFFC\n0201000400040000\n";
     let mut short = [46u8; 47];
-    quick_case(rt, b"no sheet", book, &mut short)?;
+    quick_case(rt, b"no sheet", EXAMPLE, &mut short)?;
     let mut sheet = [46u8; 60];
-    quick_case(rt, b"example", book, &mut sheet)
+    quick_case(rt, b"example", EXAMPLE, &mut sheet)
 }
 
 // The charge of a sheet of document 01's example.
 fn charge_case(rt: &impl Print, name: &[u8], sheet: &[u8], prices: &[u16]) -> io::Result<()> {
-    let book = b"0101030400000064000A\n0201000500050005\n020100050004FFFC\n0201000400040000\n";
-    let charged = charge::charge(book, sheet, prices);
+    let charged = charge::charge(EXAMPLE, sheet, prices);
     let answer = charged.answer;
     print_numbers(rt, name, b": charge, number ", answer)?;
     print_field(rt, b" charge ", charged.charge)?;
@@ -384,18 +350,10 @@ fn charges(rt: &impl Print) -> io::Result<()> {
     charge_case(rt, b"foreign, no price", b"", &prices[..0])
 }
 
-// A byte of a buffer, if it has so many.
-fn print_byte(rt: &impl Print, bytes: &[u8], at: usize) -> io::Result<()> {
-    if at < bytes.len() {
-        print_field(rt, b" ", bytes[at] as u64)?;
-    }
-    Ok(())
-}
-
 // The order from a sheet of document 01's example on which load 3 runs to its plan, on which loads 1 and 2 run; then the buffer, byte by byte.
 fn order_case(rt: &impl Print, name: &[u8], names: &[u8], order: &mut [u8]) -> io::Result<()> {
     let ordered = order::order(
-        b"0101030400000064000A\n0201000500050005\n020100050004FFFC\n0201000400040000\n",
+        EXAMPLE,
         b"040000000400000000000001\n050000000400000000000A\n",
         b"040000000A0000000E010100\n050000000900000001000A\n",
         names,
@@ -406,8 +364,9 @@ fn order_case(rt: &impl Print, name: &[u8], names: &[u8], order: &mut [u8]) -> i
     print_field(rt, b" starts ", ordered.starts)?;
     print_field(rt, b" stops ", ordered.stops)?;
     print(rt, b", buffer")?;
-    print_byte(rt, order, 0)?;
-    print_byte(rt, order, 1)?;
+    for byte in order.iter() {
+        print_field(rt, b" ", u64::from(*byte))?;
+    }
     print(rt, b"\n")
 }
 
@@ -419,10 +378,7 @@ fn named_case(
     second: u8,
     order: &mut [u8],
 ) -> io::Result<()> {
-    let mut names = [0u8; 3];
-    names[0] = first;
-    names[1] = second;
-    order_case(rt, name, &names, order)
+    order_case(rt, name, &[first, second, 0], order)
 }
 
 // A load that names itself; one whose named load stops; then load 1 names load 2, with a buffer of one byte and of two.
@@ -437,10 +393,9 @@ fn orders(rt: &impl Print) -> io::Result<()> {
 
 // What the mill sees of a sheet of document 01's example, and then what the supply company sees, in the same buffer.
 fn view_case(rt: &impl Print, name: &[u8], sheet: &[u8], view: &mut [u8]) -> io::Result<()> {
-    let book = b"0101030400000064000A\n0201000500050005\n020100050004FFFC\n0201000400040000\n";
-    let a = views::mill_view(book, sheet, view);
+    let a = views::mill_view(EXAMPLE, sheet, view);
     print_answer(rt, name, b": mill, number ", a, view)?;
-    let a = views::supply_view(book, sheet, view);
+    let a = views::supply_view(EXAMPLE, sheet, view);
     print_answer(rt, name, b": supply, number ", a, view)
 }
 
@@ -516,12 +471,9 @@ fn refused_pools(rt: &impl Print) -> io::Result<()> {
 }
 
 fn main(rt: HostRuntime) -> io::Result<()> {
-    unreadable_books(&rt)?;
-    misshapen_books(&rt)?;
-    invalid_books(&rt)?;
+    refused_books(&rt)?;
     quick_sheets(&rt)?;
-    own_sheets(&rt)?;
-    foreign_sheets(&rt)?;
+    sheets(&rt)?;
     reader_case(&rt, b"torn book", b"0101", b"")?;
     refused_plans(&rt)?;
     refused_budgets(&rt)?;

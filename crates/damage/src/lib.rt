@@ -1,15 +1,12 @@
 // Books with one fault or two, put in on purpose: a fault is a refusal's number of 1 to 8 and the line that it is put on. By
-// document 01's order the answer is that of the earlier line, and on one line the lower number. A function that draws gives the seed
-// after, and one that changes a line its new end: as a drawn number, where it does both.
+// document 01's order the answer is that of the earlier line, and on one line the lower number. A fault goes by its number and is no enum: it is drawn and
+// compared as a number, and answered as one.
 #![tactic(auto)]
 
-use fields::{put_header, put_load};
-use plain::{
-    Drawn, byte_at, greater, lesser, minus, plus, put_byte, put_end, put_number, rest, roll,
-    roll_from, times,
-};
+ghost use Rattle.std.specs.Prelude.{◌≡◌, ◌<◌, ◌≤◌, ◌==◌, ◌&&◌, cond, nat_lt, MatchOption, IsNone, IsSomeAnd};
 
-const NO_LINE: u64 = 1000;
+use fields::{Book, Load, negative, push_header, push_load};
+use plain::{Draws, Text};
 
 #[derive(Clone, Copy)]
 pub struct Fault {
@@ -17,395 +14,271 @@ pub struct Fault {
     pub line: u64,
 }
 
-// Two faults, the higher number first, and the seed after them; where there is one only, the other is on no line.
+// A fault, and where there are two the one of the higher number.
 #[derive(Clone, Copy)]
 pub struct Faults {
-    pub high: Fault,
+    pub high: Option<Fault>,
     pub low: Fault,
-    pub seed: u64,
 }
 
 // A line on which a fault of this number can be.
-fn draw_line(seed: u64, book: &[u64], number: u64) -> Drawn {
-    let loads = fields::loads(book);
-    if number == 6 {
-        Drawn { number: 1, seed }
-    } else if number == 7 {
-        roll_from(seed, 2, loads)
-    } else if number == 8 {
-        Drawn {
-            number: plus(loads, 2),
-            seed,
-        }
-    } else {
-        roll_from(seed, 1, plus(loads, 1))
+fn draw_line(draws: &mut Draws, loads: u64, number: u64) -> u64 {
+    match number {
+        6 => 1,
+        7 => draws.roll_from(2, loads),
+        8 => loads.wrapping_add(2),
+        _ => draws.roll_from(1, loads.wrapping_add(1)),
     }
 }
 
-pub fn draw_one(seed: u64, book: &[u64]) -> Faults {
-    let one = roll_from(seed, 1, 8);
-    let number = one.number;
-    let line = draw_line(one.seed, book, number);
+fn draw_fault(draws: &mut Draws, book: &Book, number: u64) -> Fault
+    ensures { result.number ≡ number }
+{
+    let line = draw_line(draws, book.header.loads as u64, number);
+    Fault { number, line }
+}
+
+pub fn draw_one(draws: &mut Draws, book: &Book) -> Faults
+    ensures one { IsNone result.high }
+    ensures number { (0 < result.low.number) × (result.low.number ≤ 8) }
+{
+    let number = draws.roll_from(1, 8);
     Faults {
-        high: Fault {
-            number: 0,
-            line: NO_LINE,
-        },
-        low: Fault {
-            number,
-            line: line.number,
-        },
-        seed: line.seed,
+        high: None,
+        low: draw_fault(draws, book, number),
     }
 }
 
 // Two faults of different numbers.
-pub fn draw_two(seed: u64, book: &[u64]) -> Faults {
-    let one = roll_from(seed, 2, 7);
-    let other = roll_from(one.seed, 1, minus(one.number, 1));
-    let high = draw_line(other.seed, book, one.number);
-    let low = draw_line(high.seed, book, other.number);
+pub fn draw_two(draws: &mut Draws, book: &Book) -> Faults
+    ensures low { 0 < result.low.number }
+    ensures high { IsSomeAnd result.high (λ high. (result.low.number < high.number) × (high.number ≤ 8)) }
+{
+    let one = draws.roll_from(2, 7);
+    let other = draws.roll_from(1, one.saturating_sub(1));
+    let high = draw_fault(draws, book, one);
     Faults {
-        high: Fault {
-            number: one.number,
-            line: high.number,
-        },
-        low: Fault {
-            number: other.number,
-            line: low.number,
-        },
-        seed: low.seed,
+        high: Some(high),
+        low: draw_fault(draws, book, other),
     }
 }
 
-// How many faults are in the text: nothing comes after an unterminated line.
-pub fn shown(faults: Faults) -> u64 {
-    let high = faults.high;
-    let low = faults.low;
-    if high.number == 0 || (low.number == 1 && high.line > low.line) {
-        1
-    } else {
-        2
+impl Faults {
+    // How many faults are in the text: nothing comes after an unterminated line.
+    pub fn shown(self) -> usize
+        ensures { MatchOption self.high (result ≡ 1) (λ high. result ≡ cond ((self.low.number == 1) && nat_lt self.low.line high.line) 1 2) }
+    {
+        match self.high {
+            None => 1,
+            Some(high) if self.low.number == 1 && high.line > self.low.line => 1,
+            Some(_) => 2,
+        }
     }
-}
 
-// The fault that is answered.
-pub fn first(faults: Faults) -> Fault {
-    let high = faults.high;
-    let low = faults.low;
-    if high.line < low.line { high } else { low }
-}
+    // The fault that is answered.
+    pub fn first(self) -> Fault
+        ensures { MatchOption self.high (result ≡ self.low) (λ high. result ≡ cond (nat_lt high.line self.low.line) high self.low) }
+    {
+        match self.high {
+            Some(high) if high.line < self.low.line => high,
+            _ => self.low,
+        }
+    }
 
-// Puts a drawn number of two digits.
-fn put_drawn(text: &mut [u8], place: u64, drawn: Drawn) -> u64 {
-    put_number(text, place, 2, drawn.number);
-    drawn.seed
+    // Whether this line is the unterminated one (torn).
+    fn is_torn(self, line: u64) -> bool {
+        self.low.number == 1 && self.low.line == line
+    }
+
+    // Whether there is a byte after the last line (trailing).
+    fn trails(self) -> bool {
+        self.low.number == 8 || self.high.is_some_and(|high| high.number == 8)
+    }
 }
 
 // A T or an o out of its range: 0, the least that is too large, or one from it on.
-fn draw_range(seed: u64, least: u64) -> Drawn {
-    let kind = roll(seed, 3);
-    let more = roll(kind.seed, minus(256, least));
-    let number = if kind.number == 0 {
-        0
-    } else {
-        plus(least, times(more.number, minus(kind.number, 1)))
-    };
-    Drawn {
-        number,
-        seed: more.seed,
+fn draw_range(draws: &mut Draws, least: u64) -> u64 {
+    let kind = draws.roll(3);
+    let more = draws.roll(256u64.saturating_sub(least));
+    match kind {
+        0 => 0,
+        1 => least,
+        _ => least.wrapping_add(more),
     }
 }
 
 // T or o out of its range (crowded), by two digits that begin at the line's third.
-fn slots_or_options_out_of_range(text: &mut [u8], start: u64, seed: u64) -> u64 {
+fn slots_or_options_out_of_range(text: &mut Text, start: usize, draws: &mut Draws) {
     let least = if start == 0 { 5 } else { 4 };
-    put_drawn(text, plus(start, 2), draw_range(seed, least))
+    text.put_number(start.wrapping_add(2), 2, draw_range(draws, least));
 }
 
-// 0, or some number of two digits from the least that is too large on.
-fn draw_out_of_range(seed: u64, is_zero: bool, least: u64) -> Drawn {
-    if is_zero {
-        Drawn { number: 0, seed }
-    } else {
-        roll_from(seed, least, minus(256, least))
-    }
-}
-
-// N or d out of its range (beyond).
-fn loads_or_fineness_out_of_range(text: &mut [u8], seed: u64) -> u64 {
-    let kind = roll(seed, 4);
-    if kind.number < 2 {
-        put_drawn(text, 4, draw_out_of_range(kind.seed, kind.number == 0, 25))
-    } else {
-        put_drawn(text, 6, draw_out_of_range(kind.seed, kind.number == 2, 65))
-    }
-}
-
-// A Q of 16 bits this far from 0, on the side that is drawn if it has one there.
-fn either(far: u64, side: u64) -> u64 {
-    if side == 0 && far < 32768 {
-        far
-    } else {
-        fields::negative(far)
+// N or d out of its range (beyond): 0, or some number of two digits from the least that is too large on.
+fn loads_or_fineness_out_of_range(text: &mut Text, draws: &mut Draws) {
+    match draws.roll(4) {
+        0 => text.put_number(4, 2, 0),
+        1 => text.put_number(4, 2, draws.roll_from(25, 256 - 25)),
+        2 => text.put_number(6, 2, 0),
+        _ => text.put_number(6, 2, draws.roll_from(65, 256 - 65)),
     }
 }
 
 // Where some option's P and Q of some slot begin on a load's line.
-fn draw_pair(seed: u64, book: &[u64], load: u64) -> Drawn {
-    let option = roll(seed, fields::options(book, load));
-    let slot = roll(option.seed, fields::slots(book));
-    let each = times(4, fields::used(book));
-    Drawn {
-        number: plus(8, plus(times(option.number, each), times(8, slot.number))),
-        seed: slot.seed,
-    }
+fn draw_pair(draws: &mut Draws, load: &Load, slots: usize) -> usize {
+    let option = draws.roll(load.o as u64) as usize;
+    let slot = draws.roll(slots as u64) as usize;
+    let each = slots.wrapping_mul(8).wrapping_add(4);
+    let place = option.wrapping_mul(each).wrapping_add(slot.wrapping_mul(8));
+    place.wrapping_add(8)
 }
 
-// One above P, the farthest that there is, or between.
-fn farther(p: u64, more: u64, kind: u64) -> u64 {
-    if kind == 0 {
-        plus(p, 1)
-    } else if kind == 1 {
-        32768
+// A Q of 16 bits with |Q| one above P, the farthest that there is, or between; on the side that is drawn if it has one there.
+fn draw_exceeding(draws: &mut Draws, p: u64) -> u64 {
+    let more = draws.roll(32768u64.saturating_sub(p));
+    let above = p.wrapping_add(1);
+    let far = match draws.roll(3) {
+        0 => above,
+        1 => 32768,
+        _ => above.wrapping_add(more),
+    };
+    if draws.roll(2) == 0 && far < 32768 {
+        far
     } else {
-        plus(plus(p, 1), more)
+        negative(far)
     }
-}
-
-// A Q with |Q| one above P, or more.
-fn draw_exceeding(seed: u64, p: u64) -> Drawn {
-    let more = roll(seed, minus(32768, p));
-    let kind = roll(more.seed, 3);
-    let side = roll(kind.seed, 2);
-    let far = farther(p, more.number, kind.number);
-    Drawn {
-        number: either(far, side.number),
-        seed: side.seed,
-    }
-}
-
-fn put_exceeding(text: &mut [u8], place: u64, seed: u64) -> u64 {
-    let p = roll(seed, 32768);
-    let q = draw_exceeding(p.seed, p.number);
-    let next = put_number(text, place, 4, p.number);
-    put_number(text, next, 4, q.number);
-    q.seed
 }
 
 // |Q| above P in some option and slot (slack).
-fn reactive_exceeds_active(text: &mut [u8], start: u64, seed: u64, book: &[u64], load: u64) -> u64 {
-    let place = draw_pair(seed, book, load);
-    put_exceeding(text, plus(start, place.number), place.seed)
+fn reactive_exceeds_active(
+    text: &mut Text,
+    start: usize,
+    draws: &mut Draws,
+    load: &Load,
+    slots: usize,
+) {
+    let place = start.wrapping_add(draw_pair(draws, load, slots));
+    let p = draws.roll(32768);
+    text.put_number(place, 4, p);
+    text.put_number(place.wrapping_add(4), 4, draw_exceeding(draws, p));
 }
 
 // A byte of the line that is no digit (smudged); an empty line gets one.
-fn not_hex(text: &mut [u8], line: Line, seed: u64) -> Drawn {
-    let place = roll_from(seed, line.start, minus(line.end, line.start));
-    let byte = roll(place.seed, 12);
-    put_byte(text, place.number, byte_at(b"gafG:/@` \r\t\0", byte.number));
-    Drawn {
-        number: greater(line.end, plus(place.number, 1)),
-        seed: byte.seed,
+fn not_hex(text: &mut Text, start: usize, draws: &mut Draws) {
+    let bytes = text.len().saturating_sub(start);
+    let place = start.wrapping_add(draws.roll(bytes as u64) as usize);
+    let byte = draws.pick(b"gafG:/@` \r\t\0");
+    if bytes == 0 {
+        text.push_byte(byte);
+    } else {
+        text.put_byte(place, byte);
     }
 }
 
 // An unterminated line (torn) ends early.
-fn unterminated(line: Line, seed: u64) -> Drawn {
-    roll_from(seed, line.start, plus(minus(line.end, line.start), 1))
+fn unterminated(text: &mut Text, start: usize, draws: &mut Draws) {
+    let bytes = text.len().saturating_sub(start) as u64;
+    let left = draws.roll(bytes.wrapping_add(1)) as usize;
+    text.truncate(start.wrapping_add(left));
 }
 
 // One digit more or less (misshapen).
-fn wrong_length(text: &mut [u8], end: u64, seed: u64) -> Drawn {
-    let less = roll(seed, 2);
-    put_byte(text, end, b'0');
-    Drawn {
-        number: minus(plus(end, 1), times(2, less.number)),
-        seed: less.seed,
+fn wrong_length(text: &mut Text, draws: &mut Draws) {
+    if draws.roll(2) == 0 {
+        text.push_byte(b'0');
+    } else {
+        text.truncate(text.len().saturating_sub(1));
     }
 }
 
-// Document 02 gives the kinds 06 to 08 to lines of a book, so that a reader may take them. The bench has document 01's books only; 03, which no line
-// has, stands in for them as a fault.
-fn of_no_line(kind: u64) -> u64 {
-    if 5 < kind {
-        if kind < 9 {
-            return 3;
-        }
-    }
-    kind
-}
-
-// A kind that is not due.
-fn draw_wrong_kind(seed: u64, due: u64) -> Drawn {
-    let other = roll_from(seed, plus(due, 1), 255);
-    Drawn {
-        number: of_no_line(rest(other.number, 256)),
-        seed: other.seed,
+// A kind that is not due. Document 02 gives the kinds 06 to 08 to lines of a book, so that a reader may take them. The bench has document 01's books only;
+// 03, which no line has, stands in for them as a fault.
+fn draw_wrong_kind(draws: &mut Draws, due: u64) -> u64 {
+    match draws.roll_from(due.wrapping_add(1), 255) % 256 {
+        6..=8 => 3,
+        kind => kind,
     }
 }
 
 // Fewer than 4 digits, or a kind that is not due (stray).
-fn wrong_kind(text: &mut [u8], line: Line, seed: u64) -> Drawn {
-    let digits = roll_from(seed, line.start, 8);
-    if digits.number < plus(line.start, 4) {
-        digits
+fn wrong_kind(text: &mut Text, start: usize, draws: &mut Draws) {
+    let digits = draws.roll(8) as usize;
+    if digits < 4 {
+        text.truncate(start.wrapping_add(digits));
     } else {
-        let due = if line.start == 0 { 1 } else { 2 };
-        Drawn {
-            number: line.end,
-            seed: put_drawn(text, line.start, draw_wrong_kind(digits.seed, due)),
+        let due = if start == 0 { 1 } else { 2 };
+        text.put_number(start, 2, draw_wrong_kind(draws, due));
+    }
+}
+
+// Puts a fault into the text's last line, which starts at a place. One of number 8 is in no line.
+fn put_fault(text: &mut Text, start: usize, draws: &mut Draws, book: &Book, fault: Fault) {
+    match fault.number {
+        1 => unterminated(text, start, draws),
+        2 => not_hex(text, start, draws),
+        3 => wrong_kind(text, start, draws),
+        4 => slots_or_options_out_of_range(text, start, draws),
+        5 => wrong_length(text, draws),
+        6 => loads_or_fineness_out_of_range(text, draws),
+        7 => {
+            if let Some(load) = load_on(book, fault.line) {
+                reactive_exceeds_active(text, start, draws, load, book.header.slots);
+            }
+        }
+        _ => {}
+    }
+}
+
+// The load on a line.
+fn load_on(book: &Book, line: u64) -> Option<&Load> {
+    let k = line.checked_sub(2)?;
+    book.loads.get(k as usize)
+}
+
+// A line of a book without its end, at a budget of 0.
+fn push_line(text: &mut Text, book: &Book, line: u64) {
+    if let Some(load) = load_on(book, line) {
+        push_load(text, load, book.header.slots);
+    } else {
+        push_header(text, book.header, 0);
+    }
+}
+
+// A line with the faults that are on it: the one of the higher number first, which the other then leaves hidden.
+fn push_damaged_line(text: &mut Text, draws: &mut Draws, book: &Book, faults: Faults, line: u64) {
+    let start = text.len();
+    push_line(text, book, line);
+    if let Some(high) = faults.high {
+        if high.line == line {
+            put_fault(text, start, draws, book, high);
         }
     }
-}
-
-// Where a line stands in the text, without its end.
-#[derive(Clone, Copy)]
-struct Line {
-    start: u64,
-    end: u64,
-}
-
-// Puts a fault of 1 to 3 into a line.
-fn put_digits_fault(text: &mut [u8], line: Line, seed: u64, number: u64) -> Drawn {
-    if number == 3 {
-        wrong_kind(text, line, seed)
-    } else if number == 2 {
-        not_hex(text, line, seed)
-    } else {
-        unterminated(line, seed)
+    if faults.low.line == line {
+        put_fault(text, start, draws, book, faults.low);
     }
 }
 
-// Puts a fault of 4, 6 or 7 into a line, whose end stays where it is.
-fn put_number_fault(text: &mut [u8], start: u64, seed: u64, book: &[u64], fault: Fault) -> u64 {
-    let number = fault.number;
-    if number == 7 {
-        reactive_exceeds_active(text, start, seed, book, minus(fault.line, 2))
-    } else if number == 6 {
-        loads_or_fineness_out_of_range(text, seed)
+// A byte after the last line: no LF where the last line is unterminated, as it would end it.
+fn push_trailing(text: &mut Text, faults: Faults) {
+    if faults.low.number == 1 || text.len() % 2 == 0 {
+        text.push_byte(b'0');
     } else {
-        slots_or_options_out_of_range(text, start, seed)
+        text.end_line();
     }
 }
 
-// Puts one fault into a line.
-fn put_fault(text: &mut [u8], line: Line, seed: u64, book: &[u64], fault: Fault) -> Drawn {
-    let number = fault.number;
-    if number < 4 {
-        put_digits_fault(text, line, seed, number)
-    } else if number == 5 {
-        wrong_length(text, line.end, seed)
-    } else {
-        Drawn {
-            number: line.end,
-            seed: put_number_fault(text, line.start, seed, book, fault),
+// A book's text with its faults; an unterminated line is the last.
+pub fn damaged(draws: &mut Draws, book: &Book, faults: Faults) -> Text {
+    let mut text = Text::new();
+    for k in 0..book.header.loads.wrapping_add(1) {
+        let line = (k as u64).wrapping_add(1);
+        push_damaged_line(&mut text, draws, book, faults, line);
+        if faults.is_torn(line) {
+            break;
         }
+        text.end_line();
     }
-}
-
-// Puts a fault into a line if it is to stand there.
-fn put_fault_on(
-    text: &mut [u8],
-    line: Line,
-    seed: u64,
-    book: &[u64],
-    fault: Fault,
-    is_on: bool,
-) -> Drawn {
-    if is_on && fault.number < 8 {
-        put_fault(text, line, seed, book, fault)
-    } else {
-        Drawn {
-            number: line.end,
-            seed,
-        }
+    if faults.trails() {
+        push_trailing(&mut text, faults);
     }
-}
-
-// The line with the faults that are on it: the one of the higher number first, which the other then leaves hidden.
-fn put_faults(
-    text: &mut [u8],
-    line: Line,
-    seed: u64,
-    book: &[u64],
-    faults: Faults,
-    n: u64,
-) -> Drawn {
-    let high = faults.high;
-    let low = faults.low;
-    let with_high = put_fault_on(text, line, seed, book, high, high.line == n);
-    let changed = Line {
-        start: line.start,
-        end: with_high.number,
-    };
-    put_fault_on(text, changed, with_high.seed, book, low, low.line == n)
-}
-
-// The n-th line of a book without its end.
-fn put_line(text: &mut [u8], start: u64, book: &[u64], n: u64) -> u64 {
-    if n == 1 {
-        put_header(text, book, 0)
-    } else {
-        put_load(text, start, book, minus(n, 2))
-    }
-}
-
-fn put_damaged_line(text: &mut [u8], before: Drawn, book: &[u64], faults: Faults, n: u64) -> Drawn {
-    let start = before.number;
-    let end = put_line(text, start, book, n);
-    let damaged = put_faults(text, Line { start, end }, before.seed, book, faults, n);
-    Drawn {
-        number: put_end_unless(text, damaged.number, n == unterminated_line(faults)),
-        seed: damaged.seed,
-    }
-}
-
-fn put_damaged_lines(text: &mut [u8], book: &[u64], faults: Faults) -> Drawn {
-    let last = lesser(unterminated_line(faults), plus(fields::loads(book), 1));
-    let mut end = Drawn {
-        number: 0,
-        seed: faults.seed,
-    };
-    for n in 1..plus(last, 1) {
-        end = put_damaged_line(text, end, book, faults, n);
-    }
-    end
-}
-
-// A book's text with its faults, at a budget of 0; an unterminated line is the last.
-pub fn put_damaged(text: &mut [u8], book: &[u64], faults: Faults) -> Drawn {
-    let lines = put_damaged_lines(text, book, faults);
-    Drawn {
-        number: put_trailing(text, lines.number, faults),
-        seed: lines.seed,
-    }
-}
-
-// The line that is unterminated (torn), if one is.
-fn unterminated_line(faults: Faults) -> u64 {
-    let low = faults.low;
-    if low.number == 1 { low.line } else { NO_LINE }
-}
-
-fn put_end_unless(text: &mut [u8], end: u64, unterminated: bool) -> u64 {
-    if unterminated {
-        end
-    } else {
-        put_end(text, end)
-    }
-}
-
-// A byte after the last line (trailing): no LF where the last line is unterminated, as it would end it.
-fn put_trailing(text: &mut [u8], end: u64, faults: Faults) -> u64 {
-    let high = faults.high;
-    let low = faults.low;
-    if high.number != 8 && low.number != 8 {
-        end
-    } else if low.number == 1 || rest(end, 2) == 0 {
-        put_byte(text, end, b'0');
-        plus(end, 1)
-    } else {
-        put_end(text, end)
-    }
+    text
 }

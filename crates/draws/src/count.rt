@@ -1,66 +1,53 @@
 // What was drawn, counted by kind in the tally.
-use crate::is_twin;
-use plain::{at, count, minus, over, plus, rest, times};
+use fields::{Book, Header, Load, Pair, Way};
+use kinds::Tally;
 
-fn kind_of_slot(book: &[u64], slot: u64) -> u64 {
-    if fields::limit(book, slot) == 0 {
+fn kind_of_slot(header: Header, slot: usize) -> usize {
+    if header.limit(slot) == 0 {
         kinds::LIMIT_ZERO
-    } else if fields::step(book, slot) == 1 {
+    } else if header.step(slot) == 1 {
         kinds::STEP_ONE
     } else {
         kinds::STEP_ABOVE_ONE
     }
 }
 
-fn count_slots(tally: &mut [u64], book: &[u64]) {
-    for slot in 0..fields::slots(book) {
-        count(tally, kind_of_slot(book, slot), true);
+fn count_pair(tally: &mut Tally, pair: Pair) {
+    tally.count(kinds::PAIRS);
+    tally.count_if(kinds::BELOW_ZERO, pair.down > 0);
+    tally.count_if(
+        kinds::AS_LARGE,
+        pair.active > 0 && pair.far() == pair.active,
+    );
+}
+
+// Each P and Q that the book uses.
+fn count_pairs(tally: &mut Tally, load: &Load, slots: usize) {
+    for option in load.options.iter().take(load.o) {
+        for pair in option.pairs.iter().take(slots) {
+            count_pair(tally, *pair);
+        }
     }
 }
 
 // Counts a load by its o, and where it is a twin by how.
-fn count_load(tally: &mut [u64], book: &[u64], load: u64) {
-    let way = fields::way(book, load);
-    count(tally, plus(kinds::LOADS, fields::options(book, load)), true);
-    count(tally, plus(kinds::TWINS, way), is_twin(book, load));
-}
-
-// Whether the number at a place of a load's line is a Q that the book uses.
-fn is_reactive(book: &[u64], load: u64, place: u64) -> bool {
-    let field = rest(place, fields::OPTION);
-    over(place, fields::OPTION) < fields::options(book, load)
-        && field > 0
-        && field <= times(2, fields::slots(book))
-        && rest(field, 2) == 0
-}
-
-fn count_reactive(tally: &mut [u64], q: u64, active: u64) {
-    let down = fields::below(q);
-    let far = plus(fields::above(q), down);
-    count(tally, kinds::PAIRS, true);
-    count(tally, kinds::BELOW_ZERO, down > 0);
-    count(tally, kinds::AS_LARGE, active > 0 && far == active);
-}
-
-// Counts a load at its first number, and each P and Q that the book uses at the Q.
-fn count_number(tally: &mut [u64], book: &[u64], i: u64) {
-    let load = over(i, fields::LOAD);
-    let place = rest(i, fields::LOAD);
-    if place == 0 {
-        count_load(tally, book, load);
-    } else if is_reactive(book, load, minus(place, 2)) {
-        count_reactive(tally, at(book, plus(7, i)), at(book, plus(6, i)));
+fn count_load(tally: &mut Tally, load: &Load) {
+    tally.count(kinds::LOADS.wrapping_add(load.o));
+    match load.way {
+        Way::Again => tally.count(kinds::AGAIN),
+        Way::TurnedAbout => tally.count(kinds::TURNED_ABOUT),
+        Way::ByItself => {}
     }
 }
 
-fn count_loads(tally: &mut [u64], book: &[u64]) {
-    for i in 0..times(fields::loads(book), fields::LOAD) {
-        count_number(tally, book, i);
+pub fn count_book(tally: &mut Tally, book: &Book) {
+    let header = book.header;
+    tally.count(kinds::BOOKS.wrapping_add(header.slots));
+    for slot in 0..header.slots {
+        tally.count(kind_of_slot(header, slot));
     }
-}
-
-pub fn count_book(tally: &mut [u64], book: &[u64]) {
-    count(tally, plus(kinds::BOOKS, fields::slots(book)), true);
-    count_slots(tally, book);
-    count_loads(tally, book);
+    for load in book.loads() {
+        count_load(tally, load);
+        count_pairs(tally, load, header.slots);
+    }
 }

@@ -1,282 +1,221 @@
-// The generator of books, from a seed, and the counts of what it drew. Each function that draws gives the seed after.
+// The generator of books, and the counts of what it drew. A way of drawing goes by the number that was drawn for it, and is no enum, as several numbers stand for
+// one way so that it is drawn more often.
 #![tactic(auto)]
 
-use plain::{Drawn, at, greater, lesser, minus, over, plus, put, rest, roll, roll_from, times};
+ghost use Rattle.std.specs.Prelude.{◌≡◌, ◌+◌, ◌%◌, ◌<◌, ◌≤◌};
+
+use fields::{Book, Header, Load, Pair, Setting, Way};
+use plain::Draws;
 
 mod count;
 
 pub use count::count_book;
 
 // Whether a book's table is kept small by limits near 0, as more loads or more slots would pass the work area.
-fn is_tight(book: &[u64]) -> bool {
-    let slots = fields::slots(book);
-    slots > 2 && plus(slots, fields::loads(book)) > 5
+fn is_tight(header: Header) -> bool {
+    let slots = header.slots;
+    slots > 2 && slots.wrapping_add(header.loads) > 5
 }
 
 // A fineness for which most books fit the work area, by T and N.
-fn draw_fitting(seed: u64, slots: u64, loads: u64) -> Drawn {
-    if slots == 1 {
-        roll_from(seed, 1, lesser(64, over(160, loads)))
-    } else if slots == 2 {
-        roll_from(seed, 1, greater(1, over(8, loads)))
-    } else {
-        Drawn { number: 1, seed }
+fn draw_fitting(draws: &mut Draws, header: Header) -> u64
+    ensures { (0 < result) × (result ≤ 64) }
+{
+    let loads = header.loads as u64;
+    match header.slots {
+        1 => draws.roll_from(1, 160u64.checked_div(loads).unwrap_or(0).min(64)),
+        2 => draws.roll_from(1, 8u64.checked_div(loads).unwrap_or(0).max(1)),
+        _ => 1,
     }
 }
 
 // A fineness: any, or one that fits.
-fn draw_fineness(seed: u64, book: &[u64]) -> Drawn {
-    let kind = roll(seed, 32);
-    if kind.number == 0 || (kind.number < 16 && is_tight(book)) {
-        roll_from(kind.seed, 1, 64)
+fn draw_fineness(draws: &mut Draws, header: Header) -> u64
+    ensures { (0 < result) × (result ≤ 64) }
+{
+    let kind = draws.roll(32);
+    if kind == 0 || (kind < 16 && is_tight(header)) {
+        draws.roll_from(1, 64)
     } else {
-        draw_fitting(kind.seed, fields::slots(book), fields::loads(book))
+        draw_fitting(draws, header)
     }
 }
 
 // A limit of a tight book: with the least fineness a step above 1 in some slots and 0 in most others, else near 0.
-fn draw_tight(seed: u64, book: &[u64]) -> Drawn {
-    let kind = roll(seed, 16);
-    let least = fields::fineness(book) == 1;
-    if least && kind.number < 6 {
-        draw_multiple(kind.seed, fields::loads(book))
-    } else if least && kind.number < 13 {
-        Drawn {
-            number: 0,
-            seed: kind.seed,
-        }
+fn draw_tight(draws: &mut Draws, header: Header) -> u64 {
+    let kind = draws.roll(16);
+    let least = header.fineness == 1;
+    if least && kind < 6 {
+        draw_multiple(draws, header.loads as u64)
+    } else if least && kind < 13 {
+        0
     } else {
-        roll(kind.seed, minus(6, fields::slots(book)))
+        draws.roll(6u64.saturating_sub(header.slots as u64))
     }
 }
 
 // A multiple of N × d and a little more, so that R is N × d. The steps are small in every other draw, as there the spread tells most.
-fn draw_multiple(seed: u64, parts: u64) -> Drawn {
-    let size = roll(seed, 2);
-    let most = if size.number == 0 { 4 } else { 200 };
-    let step = roll_from(size.seed, 1, lesser(most, minus(over(65535, parts), 1)));
-    roll_from(
-        step.seed,
-        times(parts, step.number),
-        lesser(step.number, parts),
-    )
+fn draw_multiple(draws: &mut Draws, parts: u64) -> u64 {
+    let most = if draws.roll(2) == 0 { 4 } else { 200 };
+    let largest = 65535u64.checked_div(parts).unwrap_or(0).saturating_sub(1);
+    let step = draws.roll_from(1, largest.min(most));
+    draws.roll_from(step.wrapping_mul(parts), step.min(parts))
 }
 
-// A limit of a book that is not tight: below the first step above 1, or a multiple of N × d and a little more.
-fn draw_wide(seed: u64, parts: u64, kind: u64) -> Drawn {
-    if kind < 6 {
-        roll(seed, times(2, parts))
-    } else {
-        draw_multiple(seed, parts)
-    }
-}
-
-// A limit: any, 0, or as the book's T and N bear it.
-fn draw_limit(seed: u64, book: &[u64]) -> Drawn {
-    let kind = roll(seed, 16);
-    let next = kind.seed;
-    if kind.number == 0 {
-        roll(next, 65536)
-    } else if kind.number == 1 {
-        Drawn {
-            number: 0,
-            seed: next,
-        }
-    } else if is_tight(book) {
-        draw_tight(next, book)
-    } else {
-        let parts = times(fields::loads(book), fields::fineness(book));
-        draw_wide(next, parts, kind.number)
+// A limit: any, 0, or as the book's T and N bear it: where it is not tight, below the first step above 1, or a multiple of N × d and a little more.
+fn draw_limit(draws: &mut Draws, header: Header) -> u64 {
+    let kind = draws.roll(16);
+    let parts = header.parts();
+    match kind {
+        0 => draws.roll(65536),
+        1 => 0,
+        _ if is_tight(header) => draw_tight(draws, header),
+        2..=5 => draws.roll(parts.wrapping_mul(2)),
+        _ => draw_multiple(draws, parts),
     }
 }
 
 // N: mostly up to 8, now and then 9 or 10.
-fn draw_count(seed: u64) -> Drawn {
-    let many = roll(seed, 24);
-    let few = roll(many.seed, 8);
-    let number = if many.number == 0 {
-        plus(9, rest(few.number, 2))
+fn draw_count(draws: &mut Draws) -> usize
+    ensures { (0 < result) × (result ≤ 10) }
+{
+    let many = draws.roll(24);
+    let few = draws.roll(8);
+    let n = if many == 0 {
+        9 + few % 2
     } else {
-        plus(1, few.number)
+        few.wrapping_add(1)
     };
-    Drawn {
-        number,
-        seed: few.seed,
+    n as usize
+}
+
+// T in turn, then N, d and the limits.
+fn draw_header(draws: &mut Draws, turn: usize) -> Header
+    ensures slots { result.slots ≡ turn % 4 + 1 }
+    ensures loads { (0 < result.loads) × (result.loads ≤ 10) }
+    ensures fineness { (0 < result.fineness) × (result.fineness ≤ 64) }
+{
+    let mut header = Header {
+        slots: turn % 4 + 1,
+        loads: draw_count(draws),
+        fineness: 1,
+        limits: [0; 4],
+    };
+    header.fineness = draw_fineness(draws, header);
+    let mut limits = [0; 4];
+    for limit in limits.iter_mut().take(header.slots) {
+        *limit = draw_limit(draws, header);
     }
-}
-
-// T in turn, then N and d.
-fn draw_header(seed: u64, book: &mut [u64], turn: u64) -> u64 {
-    let count = draw_count(seed);
-    put(book, 0, plus(1, rest(turn, 4)));
-    put(book, 1, count.number);
-    let fineness = draw_fineness(count.seed, book);
-    put(book, 2, fineness.number);
-    fineness.seed
-}
-
-fn draw_slot(seed: u64, book: &mut [u64], slot: u64) -> u64 {
-    let limit = draw_limit(seed, book);
-    put(book, plus(3, slot), limit.number);
-    limit.seed
-}
-
-fn draw_slots(seed: u64, book: &mut [u64]) -> u64 {
-    let mut next = seed;
-    for slot in 0..fields::slots(book) {
-        next = draw_slot(next, book, slot);
-    }
-    next
+    header.limits = limits;
+    header
 }
 
 // As many options as the enumeration bears.
-fn draw_options(seed: u64, loads: u64) -> Drawn {
-    if loads < 5 {
-        roll_from(seed, 1, 3)
-    } else if loads == 5 {
-        roll_from(seed, 1, 2)
-    } else {
-        Drawn { number: 1, seed }
-    }
+fn draw_options(draws: &mut Draws, loads: usize) -> usize {
+    let o = match loads {
+        0..=4 => draws.roll_from(1, 3),
+        5 => draws.roll_from(1, 2),
+        _ => 1,
+    };
+    o as usize
 }
 
 // Worth: of few values, so that there are ties, or any.
-fn draw_worth(seed: u64) -> Drawn {
-    let kind = roll(seed, 3);
-    let values = if kind.number == 0 { 65536 } else { 4 };
-    roll(kind.seed, values)
+fn draw_worth(draws: &mut Draws) -> u64 {
+    let values = if draws.roll(3) == 0 { 65536 } else { 4 };
+    draws.roll(values)
 }
 
 // P: such that some of the loads fit together, and now and then any.
-fn draw_active(seed: u64, book: &[u64], slot: u64) -> Drawn {
-    let kind = roll(seed, 40);
-    if kind.number == 0 {
-        roll(kind.seed, 65536)
+fn draw_active(draws: &mut Draws, header: Header, slot: usize) -> u64 {
+    if draws.roll(40) == 0 {
+        draws.roll(65536)
     } else {
-        let share = over(times(3, fields::limit(book, slot)), fields::loads(book));
-        let p = roll(kind.seed, plus(share, 2));
-        Drawn {
-            number: lesser(65535, p.number),
-            seed: p.seed,
+        let three = header.limit(slot).wrapping_mul(3);
+        let share = three.checked_div(header.loads as u64).unwrap_or(0);
+        draws.roll(share.wrapping_add(2)).min(65535)
+    }
+}
+
+// P, and Q by its kind: 0, as large as P on either side of 0, or between.
+fn draw_pair(draws: &mut Draws, header: Header, slot: usize) -> Pair {
+    let active = draw_active(draws, header, slot);
+    let kind = draws.roll(7);
+    let far = draws.roll(active.wrapping_add(1));
+    let (up, down) = match kind {
+        0 => (0, 0),
+        1 => (active.min(32767), 0),
+        2 => (0, active.min(32768)),
+        3 | 4 => (far.min(32767), 0),
+        _ => (0, far.min(32768)),
+    };
+    Pair { active, up, down }
+}
+
+fn draw_option(draws: &mut Draws, header: Header) -> Setting {
+    let mut option = Setting::NONE;
+    option.worth = draw_worth(draws);
+    for slot in 0..4 {
+        option.pairs[slot] = draw_pair(draws, header, slot);
+    }
+    option
+}
+
+// A load by itself, with its o and options of which it may use fewer.
+fn draw_own(draws: &mut Draws, header: Header, o: usize) -> Load {
+    let mut options = [Setting::NONE; 3];
+    for option in options.iter_mut() {
+        *option = draw_option(draws, header);
+    }
+    Load {
+        way: Way::ByItself,
+        o,
+        options,
+    }
+}
+
+// A load with each Q on the other side of 0, so that it cancels the one before.
+fn turned_about(before: &Load) -> Load {
+    let mut load = *before;
+    for option in load.options.iter_mut() {
+        for pair in option.pairs.iter_mut() {
+            let up = pair.down.min(32767);
+            pair.down = pair.up;
+            pair.up = up;
         }
     }
+    load
 }
 
-// Q of 16 bits by its kind: 0, as large as P on either side of 0, or between.
-fn reactive(kind: u64, active: u64, far: u64) -> u64 {
-    if kind == 0 {
-        0
-    } else if kind == 1 {
-        lesser(active, 32767)
-    } else if kind == 2 {
-        fields::negative(lesser(active, 32768))
-    } else if kind < 5 {
-        lesser(far, 32767)
-    } else {
-        fields::negative(lesser(far, 32768))
+// A load: mostly by itself, else a twin of the one before, if there is one. The o of a twin is drawn too, and then given up.
+fn draw_load(draws: &mut Draws, header: Header, before: Option<Load>) -> Load {
+    let kind = draws.roll(6);
+    let o = draw_options(draws, header.loads);
+    match before {
+        Some(before) if kind == 0 => Load {
+            way: Way::Again,
+            ..before
+        },
+        Some(before) if kind == 1 => Load {
+            way: Way::TurnedAbout,
+            ..turned_about(&before)
+        },
+        _ => draw_own(draws, header, o),
     }
 }
 
-fn draw_reactive(seed: u64, active: u64) -> Drawn {
-    let kind = roll(seed, 7);
-    let far = roll(kind.seed, plus(active, 1));
-    Drawn {
-        number: reactive(kind.number, active, far.number),
-        seed: far.seed,
+// The book of a turn; loads that it does not use are drawn too.
+pub fn draw_book(draws: &mut Draws, turn: usize) -> Book
+    ensures slots { result.header.slots ≡ turn % 4 + 1 }
+    ensures loads { (0 < result.header.loads) × (result.header.loads ≤ 10) }
+    ensures fineness { (0 < result.header.fineness) × (result.header.fineness ≤ 64) }
+{
+    let header = draw_header(draws, turn);
+    let mut loads = [Load::NONE; 10];
+    let mut before = None;
+    for load in loads.iter_mut() {
+        *load = draw_load(draws, header, before);
+        before = Some(*load);
     }
-}
-
-// Whether a load is a twin of the one before.
-fn is_twin(book: &[u64], load: u64) -> bool {
-    load > 0 && fields::way(book, load) < 2
-}
-
-// The number of the load before that stands where this one does.
-fn before(book: &[u64], i: u64) -> u64 {
-    at(book, minus(plus(7, i), fields::LOAD))
-}
-
-// Which number of its option this one is: 0 its worth, then P and Q of each slot.
-fn field(i: u64) -> u64 {
-    rest(minus(rest(i, fields::LOAD), 2), fields::OPTION)
-}
-
-// A load's o; that of a twin is drawn too, and then given up.
-fn draw_first(seed: u64, book: &[u64], i: u64) -> Drawn {
-    let o = draw_options(seed, fields::loads(book));
-    if is_twin(book, over(i, fields::LOAD)) {
-        Drawn {
-            number: before(book, i),
-            seed: o.seed,
-        }
-    } else {
-        o
-    }
-}
-
-// Worth, P or Q of an option.
-fn draw_field(seed: u64, book: &[u64], i: u64) -> Drawn {
-    let n = field(i);
-    if n == 0 {
-        draw_worth(seed)
-    } else if rest(n, 2) == 1 {
-        draw_active(seed, book, over(minus(n, 1), 2))
-    } else {
-        draw_reactive(seed, at(book, plus(6, i)))
-    }
-}
-
-// A number of a load: how it is drawn, its o, then worth, P and Q of each option.
-fn draw_number(seed: u64, book: &[u64], i: u64) -> Drawn {
-    let load = over(i, fields::LOAD);
-    let place = rest(i, fields::LOAD);
-    if place == 0 {
-        roll(seed, 6)
-    } else if place == 1 {
-        draw_first(seed, book, i)
-    } else if is_twin(book, load) {
-        let number = twin_number(before(book, i), fields::way(book, load), field(i));
-        Drawn { number, seed }
-    } else {
-        draw_field(seed, book, i)
-    }
-}
-
-// A Q of 16 bits on the other side of 0.
-fn turned_about(q: u64) -> u64 {
-    if q < 32768 {
-        fields::negative(q)
-    } else {
-        lesser(32767, fields::below(q))
-    }
-}
-
-// The number of a twin: as that of the load before, or with Q turned about so that the two cancel.
-fn twin_number(before: u64, way: u64, field: u64) -> u64 {
-    if way == 0 || field == 0 || rest(field, 2) == 1 {
-        before
-    } else {
-        turned_about(before)
-    }
-}
-
-fn draw_place(seed: u64, book: &mut [u64], i: u64) -> u64 {
-    let n = draw_number(seed, book, i);
-    put(book, plus(7, i), n.number);
-    n.seed
-}
-
-fn draw_loads(seed: u64, book: &mut [u64]) -> u64 {
-    let mut next = seed;
-    for i in 0..290 {
-        next = draw_place(next, book, i);
-    }
-    next
-}
-
-// The book of a turn.
-pub fn draw_book(seed: u64, book: &mut [u64], turn: u64) -> u64 {
-    let header = draw_header(seed, book, turn);
-    let slots = draw_slots(header, book);
-    draw_loads(slots, book)
+    Book { header, loads }
 }

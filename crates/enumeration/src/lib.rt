@@ -2,7 +2,11 @@
 #![tactic(auto)]
 
 mod enumerate;
+mod lists;
 mod sheet;
+mod sizes;
 
-pub use enumerate::{best_choice, cells, choices, code, quick, trials, worth};
-pub use sheet::{draw_sheet, put_sheet};
+pub use enumerate::{Best, best_choice, cells, choices, code, worth};
+pub use lists::trials;
+pub use sheet::{Change, draw_sheet, sheet_of};
+pub use sizes::quick;

@@ -1,136 +1,90 @@
-// A choice's sheet as text, as it is or changed. Each function that writes does so from a place on and gives the place after.
-use crate::enumerate;
-use plain::{
-    Drawn, byte_at, minus, plus, put_byte, put_end, put_number, rest, roll, roll_from, times,
-};
+// A choice's sheet as text, as it is or changed.
+use crate::enumerate::{choices, level, sums, worth};
+use fields::Book;
+use plain::{Draws, Text};
 
-// The levels of a choice, two digits a load.
-fn put_levels(text: &mut [u8], start: u64, book: &[u64], choice: u64) -> u64 {
-    let mut end = start;
-    for load in 0..fields::loads(book) {
-        end = put_number(text, end, 2, enumerate::level(book, choice, load));
+fn push_slot(text: &mut Text, book: &Book, choice: u64, slot: usize) {
+    let s = sums(book, choice, slot);
+    text.push_number(2, 5);
+    text.push_number(8, s.active);
+    text.push_number(8, s.up.wrapping_add(0x100000000).saturating_sub(s.down));
+    text.push_number(4, book.header.limit(slot));
+    text.end_line();
+}
+
+// The first line of a choice's sheet, with a number of trials: the levels have two digits a load.
+fn push_first(text: &mut Text, book: &Book, choice: u64, trials: u64) {
+    text.push_number(2, 4);
+    text.push_number(8, worth(book, choice));
+    text.push_number(8, trials);
+    for k in 0..book.header.loads {
+        text.push_number(2, level(book, choice, k));
     }
-    end
-}
-
-fn put_slot(text: &mut [u8], start: u64, book: &[u64], choice: u64, slot: u64) -> u64 {
-    let s = enumerate::sums(book, choice, slot);
-    let mut end = put_number(text, start, 2, 5);
-    end = put_number(text, end, 8, s.active);
-    end = put_number(text, end, 8, minus(plus(s.up, 0x100000000), s.down));
-    end = put_number(text, end, 4, fields::limit(book, slot));
-    put_end(text, end)
-}
-
-// The first line of a choice's sheet, with a number of trials.
-fn put_first(text: &mut [u8], book: &[u64], choice: u64, trials: u64) -> u64 {
-    let mut end = put_number(text, 0, 2, 4);
-    end = put_number(text, end, 8, enumerate::worth(book, choice));
-    end = put_number(text, end, 8, trials);
-    end = put_levels(text, end, book, choice);
-    put_end(text, end)
+    text.end_line();
 }
 
 // The sheet of a choice, with a number of trials.
-pub fn put_sheet(text: &mut [u8], book: &[u64], choice: u64, trials: u64) -> u64 {
-    let mut end = put_first(text, book, choice, trials);
-    for slot in 0..fields::slots(book) {
-        end = put_slot(text, end, book, choice, slot);
+pub fn sheet_of(book: &Book, choice: u64, trials: u64) -> Text {
+    let mut text = Text::new();
+    push_first(&mut text, book, choice, trials);
+    for slot in 0..book.header.slots {
+        push_slot(&mut text, book, choice, slot);
     }
-    end
+    text
 }
 
 // A number of trials, or now and then the least or the greatest that there is.
-fn end_or(trials: u64, some: u64) -> u64 {
-    let kind = rest(some, 8);
-    if kind == 0 {
-        0
-    } else if kind == 1 {
-        0xFFFFFFFF
-    } else {
-        trials
+fn draw_trials(draws: &mut Draws) -> u64 {
+    let some = draws.roll(65537);
+    let other = draws.roll(65536);
+    match some % 8 {
+        0 => 0,
+        1 => 0xFFFFFFFF,
+        _ => some.wrapping_mul(other),
     }
 }
 
-fn draw_trials(seed: u64) -> Drawn {
-    let some = roll(seed, 65537);
-    let other = roll(some.seed, 65536);
-    Drawn {
-        number: end_or(times(some.number, other.number), some.number),
-        seed: other.seed,
-    }
+// What becomes of a drawn sheet.
+#[derive(Clone, Copy)]
+pub enum Change {
+    Unchanged,
+    Byte,
+    Level,
+    Shorter,
+    Longer,
 }
 
 // A byte becomes some byte that a sheet may have, or not.
-fn change_byte(sheet: &mut [u8], bytes: u64, seed: u64) -> u64 {
-    let place = roll(seed, bytes);
-    let kind = roll(place.seed, 20);
-    let byte = byte_at(b"0123456789ABCDEFa \n\0", kind.number);
-    put_byte(sheet, place.number, byte);
-    kind.seed
+fn change_byte(sheet: &mut Text, draws: &mut Draws) {
+    let place = draws.roll(sheet.len() as u64) as usize;
+    sheet.put_byte(place, draws.pick(b"0123456789ABCDEFa \n\0"));
 }
 
 // Some load's level becomes another, or the same.
-fn change_level(sheet: &mut [u8], loads: u64, seed: u64) -> u64 {
-    let load = roll(seed, loads);
-    let level = roll(load.seed, 5);
-    put_number(sheet, plus(18, times(2, load.number)), 2, level.number);
-    level.seed
+fn change_level(sheet: &mut Text, loads: usize, draws: &mut Draws) {
+    let load = draws.roll(loads as u64) as usize;
+    let level = draws.roll(5);
+    sheet.put_number(load.wrapping_mul(2).wrapping_add(18), 2, level);
 }
 
-fn take_off(bytes: u64, seed: u64) -> Drawn {
-    let off = roll_from(seed, 1, bytes);
-    Drawn {
-        number: minus(bytes, off.number),
-        seed: off.seed,
+fn take_off(sheet: &mut Text, draws: &mut Draws) {
+    let bytes = sheet.len();
+    let off = draws.roll_from(1, bytes as u64) as usize;
+    sheet.truncate(bytes.saturating_sub(off));
+}
+
+// A sheet of some choice and some trials, as it is, or with a byte or a level changed, bytes taken off or one added.
+pub fn draw_sheet(draws: &mut Draws, book: &Book, change: Change) -> Text {
+    let loads = book.header.loads;
+    let choice = draws.roll(choices(book, loads));
+    let trials = draw_trials(draws);
+    let mut sheet = sheet_of(book, choice, trials);
+    match change {
+        Change::Unchanged => {}
+        Change::Byte => change_byte(&mut sheet, draws),
+        Change::Level => change_level(&mut sheet, loads, draws),
+        Change::Shorter => take_off(&mut sheet, draws),
+        Change::Longer => sheet.push_byte(draws.pick(b"0\n")),
     }
-}
-
-fn add_byte(sheet: &mut [u8], bytes: u64, seed: u64) -> Drawn {
-    let kind = roll(seed, 2);
-    put_byte(sheet, bytes, byte_at(b"0\n", kind.number));
-    Drawn {
-        number: plus(bytes, 1),
-        seed: kind.seed,
-    }
-}
-
-// Changes the length of a sheet, by the kind of change, and gives the new one.
-fn change_length(sheet: &mut [u8], bytes: u64, seed: u64, kind: u64) -> Drawn {
-    if kind == 3 {
-        take_off(bytes, seed)
-    } else if kind == 4 {
-        add_byte(sheet, bytes, seed)
-    } else {
-        Drawn {
-            number: bytes,
-            seed,
-        }
-    }
-}
-
-// Changes a sheet of so many bytes, by the kind of change, and gives its length.
-fn change_sheet(sheet: &mut [u8], loads: u64, bytes: u64, seed: u64, kind: u64) -> Drawn {
-    if kind == 1 {
-        Drawn {
-            number: bytes,
-            seed: change_byte(sheet, bytes, seed),
-        }
-    } else if kind == 2 {
-        Drawn {
-            number: bytes,
-            seed: change_level(sheet, loads, seed),
-        }
-    } else {
-        change_length(sheet, bytes, seed, kind)
-    }
-}
-
-// A sheet of some choice and some trials, as it is, or with a byte or a level changed, bytes taken off or one added. Gives its length.
-pub fn draw_sheet(seed: u64, sheet: &mut [u8], book: &[u64], kind: u64) -> Drawn {
-    let loads = fields::loads(book);
-    let choice = roll(seed, enumerate::choices(book, loads));
-    let trials = draw_trials(choice.seed);
-    let bytes = put_sheet(sheet, book, choice.number, trials.number);
-    change_sheet(sheet, loads, bytes, trials.seed, kind)
+    sheet
 }

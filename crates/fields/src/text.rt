@@ -1,58 +1,44 @@
-// A book as text. Each function writes from a place on and gives the place after.
-use crate::{OPTION, fineness, limit, loads, number, options, slots, used};
-use plain::{over, plus, put_end, put_number, rest, times};
-
-fn put_limits(text: &mut [u8], start: u64, book: &[u64]) -> u64 {
-    let mut end = start;
-    for slot in 0..slots(book) {
-        end = put_number(text, end, 4, limit(book, slot));
-    }
-    end
-}
-
-// The header's kind, T and N.
-fn put_counts(text: &mut [u8], book: &[u64]) -> u64 {
-    let mut end = put_number(text, 0, 2, 1);
-    end = put_number(text, end, 2, slots(book));
-    put_number(text, end, 2, loads(book))
-}
+// A book as text. A function that pushes writes at the text's end.
+use crate::{Book, Header, Load, Setting};
+use plain::Text;
 
 // The header without its end.
-pub fn put_header(text: &mut [u8], book: &[u64], budget: u64) -> u64 {
-    let mut end = put_counts(text, book);
-    end = put_number(text, end, 2, fineness(book));
-    end = put_number(text, end, 8, budget);
-    put_limits(text, end, book)
+pub fn push_header(text: &mut Text, header: Header, budget: u64) {
+    text.push_number(2, 1);
+    text.push_number(2, header.slots as u64);
+    text.push_number(2, header.loads as u64);
+    text.push_number(2, header.fineness);
+    text.push_number(8, budget);
+    for slot in 0..header.slots {
+        text.push_number(4, header.limit(slot));
+    }
 }
 
-// The number of four digits that comes after so many others on a load's line.
-fn put_field(text: &mut [u8], start: u64, book: &[u64], load: u64, i: u64) -> u64 {
-    let each = used(book);
-    let place = plus(times(over(i, each), OPTION), rest(i, each));
-    put_number(text, start, 4, number(book, load, place))
+fn push_option(text: &mut Text, option: &Setting, slots: usize) {
+    text.push_number(4, option.worth);
+    for pair in option.pairs.iter().take(slots) {
+        text.push_number(4, pair.active);
+        text.push_number(4, pair.reactive());
+    }
 }
 
 // A load's line without its end.
-pub fn put_load(text: &mut [u8], start: u64, book: &[u64], load: u64) -> u64 {
-    let o = options(book, load);
-    let mut end = put_number(text, start, 2, 2);
-    end = put_number(text, end, 2, o);
-    for i in 0..times(o, used(book)) {
-        end = put_field(text, end, book, load, i);
+pub fn push_load(text: &mut Text, load: &Load, slots: usize) {
+    text.push_number(2, 2);
+    text.push_number(2, load.o as u64);
+    for option in load.options.iter().take(load.o) {
+        push_option(text, option, slots);
     }
-    end
 }
 
-fn put_load_line(text: &mut [u8], start: u64, book: &[u64], load: u64) -> u64 {
-    let end = put_load(text, start, book, load);
-    put_end(text, end)
-}
-
-pub fn put_book(text: &mut [u8], book: &[u64], budget: u64) -> u64 {
-    let header = put_header(text, book, budget);
-    let mut end = put_end(text, header);
-    for load in 0..loads(book) {
-        end = put_load_line(text, end, book, load);
+// A book's text at a budget.
+pub fn text_of(book: &Book, budget: u64) -> Text {
+    let mut text = Text::new();
+    push_header(&mut text, book.header, budget);
+    text.end_line();
+    for load in book.loads() {
+        push_load(&mut text, load, book.header.slots);
+        text.end_line();
     }
-    end
+    text
 }

@@ -1,9 +1,5 @@
--- `enumeration::enumerate::cells` is safe and ends. Nothing has to hold from turn to turn.
-use Prim.Native.Nat.{◌-◌}
+use Rattle.std.proofs.Common.{◌≤◌}
 use Rattle.enumeration.proofs.enumerate.cells.Given as goal
 
 abbrev pub invariant-loop-slot : goal.invariant-loop-slot
-invariant-loop-slot l = Unit {0}
-
-abbrev pub decreases-loop-slot : goal.decreases-loop-slot
-decreases-loop-slot l = l.slot-end - l.slot
+invariant-loop-slot l = l.product ≤ 4000000

@@ -1,9 +1,0 @@
--- `comparison::same` is safe and ends. Nothing has to hold from turn to turn.
-use Prim.Native.Nat.{◌-◌}
-use Rattle.comparison.proofs.same.Given as goal
-
-abbrev pub invariant-loop-i : goal.invariant-loop-i
-invariant-loop-i l = Unit {0}
-
-abbrev pub decreases-loop-i : goal.decreases-loop-i
-decreases-loop-i l = l.first - l.i

@@ -1,0 +1,2 @@
+-- What a comparison leaves in the tally.
+pub mod Settled

@@ -1,9 +1,0 @@
--- `enumeration::enumerate::code` is safe and ends. Nothing has to hold from turn to turn.
-use Prim.Native.Nat.{◌-◌}
-use Rattle.enumeration.proofs.enumerate.code.Given as goal
-
-abbrev pub invariant-loop-i : goal.invariant-loop-i
-invariant-loop-i l = Unit {0}
-
-abbrev pub decreases-loop-i : goal.decreases-loop-i
-decreases-loop-i l = l.i-end - l.i

@@ -1,0 +1,2 @@
+-- How many choices a book has.
+pub mod Choices

@@ -1,0 +1,3 @@
+-- What is read of a book.
+pub mod Slots
+pub mod Used

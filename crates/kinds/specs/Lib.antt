@@ -1,0 +1,2 @@
+-- What a count leaves in the tally.
+pub mod Tally
