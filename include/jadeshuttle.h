@@ -88,9 +88,9 @@
  * `order`, `view`, `out`, and `pooled`. What is only read may be shared.
  *
  * STACK, HEAP  Nothing is allocated. Stack used by a call, as measured on x86-64
- * Linux: planner and strict planner up to 125 KiB, day up to 127 KiB, as its output waits
- * there until it is known to fit, quick planner up to 70 KiB, sheet reader, charge,
- * order, views and pool up to 50 KiB. Leave 192 KiB of stack for a call.
+ * Linux: planner and strict planner up to 113 KiB, day up to 118 KiB, as its output waits
+ * there until it is known to fit, quick planner up to 63 KiB, sheet reader, charge,
+ * order, views and pool up to 48 KiB. Leave 192 KiB of stack for a call.
  *
  * ERRORS  A call always returns. It prints nothing, and sets no errno.
  */
