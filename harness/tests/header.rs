@@ -26,6 +26,12 @@ const POOLED: [&str; 4] = [
     "examples/pool.cpp",
 ];
 
+/// What the archive takes of the C library, as the header says: names alone, to be linked with and not run.
+const TAKEN: &str = "#include <stddef.h>
+void *memcpy(void *to, const void *from, size_t n) { (void)from; (void)n; return to; }
+void *memset(void *to, int byte, size_t n) { (void)byte; (void)n; return to; }
+";
+
 const WARNINGS: [&str; 6] = ["-pedantic", "-Wall", "-Wextra", "-Werror", "-O2", "-Iinclude"];
 
 fn main() -> ExitCode {
@@ -232,6 +238,16 @@ fn compilers(trials: &mut Trials, scratch: &Path) {
     });
     trials.check("plan.c as C++17", || {
         silent(cpp17().args(["-fsyntax-only", "-x", "c++", "examples/plan.c"]))
+    });
+    trials.check("the archive takes memcpy and memset alone", || {
+        let taken = scratch.join("taken.c");
+        project::write(&taken, TAKEN)?;
+        let mut linked = c99();
+        linked.args(["-ffreestanding", "-nostdlib", "-shared", "-fPIC", "-Wl,--no-undefined"]);
+        linked
+            .arg(&taken)
+            .args(["-Wl,--whole-archive", project::ARCHIVE, "-Wl,--no-whole-archive"]);
+        silent(linked.arg("-o").arg(scratch.join("taken.so")))
     });
 }
 

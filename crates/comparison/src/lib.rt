@@ -70,7 +70,7 @@ impl From<SheetAnswer> for Wanted {
     }
 }
 
-// The i-th word that is to keep its value is given one of its own, to see later whether it did.
+// The word at place i of the work area, where it is to keep its value, is given one of its own, to see later whether it did.
 fn own_value(i: usize) -> u64 {
     0x5EED0000u64.wrapping_add(i as u64)
 }
@@ -78,7 +78,7 @@ fn own_value(i: usize) -> u64 {
 fn mark(work: &mut [u64], first: usize, end: usize) {
     if let Some(words) = work.get_mut(first..end) {
         for (i, word) in words.iter_mut().enumerate() {
-            *word = own_value(i);
+            *word = own_value(first.wrapping_add(i));
         }
     }
 }
@@ -88,7 +88,7 @@ fn is_marked(work: &[u64], first: usize, end: usize) -> bool {
     words
         .iter()
         .enumerate()
-        .all(|(i, word)| *word == own_value(i))
+        .all(|(i, word)| *word == own_value(first.wrapping_add(i)))
 }
 
 // Counts a comparison under the number that was wanted.

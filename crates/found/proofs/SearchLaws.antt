@@ -10,10 +10,11 @@ use native.Mathlib.Omega.{arith}
 use lib.Dec.{ltb}
 use lib.ListN.{length, get_or, drop}
 use borrow.Author.Tests.{lt-ltb, le-ltb}
-use Rattle.std.specs.Prelude.{Ok, Err, Result as Outcome}
+use Rattle.std.specs.Prelude as std
+use Rattle.std.specs.Prelude.{Ok, Err, Some, None, Result as Outcome}
 use Rattle.model.specs.declared.Book.{Book}
 use Rattle.model.specs.declared.Refusal.{Refusal}
-use Rattle.model.specs.declared.Refusal.TheVariants.{BudgetExceeded, NoPlan}
+use Rattle.model.specs.declared.Refusal.TheVariants.{BudgetExceeded}
 use Rattle.model.specs.Lists.{Every}
 use Rattle.model.specs.Book.{Settings}
 use Rattle.model.specs.Choice.{Choice, code_of}
@@ -42,7 +43,7 @@ use Rattle.scan.specs.declared.Test.TheVariants.{Admission, TrueSums}
 use Rattle.scan.specs.Scan.{test_of, best_of_layer, LayerCoded}
 use Rattle.scan.proofs.ScanLaws.{last_cell, scan_plan, scan_strict}
 use Rattle.found.specs.declared.Planned.{Planned}
-use Rattle.found.specs.Found.{plan_by, found_with, found_for}
+use Rattle.found.specs.Found.{plan_by, plan_code, found_for}
 
 -- the last layer lies in the work area
 pub layer_room : {ws ws' lows highs : List ℕ} {grid : Grid} {cur : ℕ} → Places ws ws' lows highs grid cur → 4 * grid.cells ≤ length ws
@@ -145,34 +146,39 @@ module _ (v : Book) (held : Held v) (grid : Grid) (is : GridIs (slots_of (proble
   layer-plan ws lows highs cur layer TrueSums = scan_strict model ws lows highs cur layer (problem_of v) (held-valid v held) refl refl
 
   module _ (test : Test) where
-    -- over the budget
+    -- within the budget
+    abbrev within : Outcome Planned Refusal
+    within = Ok (record { trials = trials (problem_of v); code = plan_code (plan_by test (problem_of v)) })
+
+    -- over it
     pub found-over : (ws lows highs : List ℕ) (cur ts : ℕ) → Searched ws lows highs grid v.count moves model v.budget cur ts → v.budget < ts
         → Path (Outcome Planned Refusal) (Err BudgetExceeded) (found_for test (problem_of v))
     unfolding problem_of found_for
     found-over ws lows highs cur ts s h =
         let e : ltb v.budget (trials (problem_of v)) ≡ true = lt-ltb _ _ (subst (λ x. v.budget < x) trials_are (s.over h)) in
-        sym (ap (λ t. cond t (Err BudgetExceeded) (found_with (trials (problem_of v)) (plan_by test (problem_of v)))) e)
+        sym (ap (λ t. cond t (Err BudgetExceeded) within) e)
 
     module _ (ws lows highs : List ℕ) (cur : ℕ) (r : Cell) (found : key_of r ≡ best_of_layer (test_of test (problem_of v)) ws lows highs grid cur)
         (ts : ℕ) (s : Searched ws lows highs grid v.count moves model v.budget cur ts) (h : ts ≤ v.budget) where
-      -- within the budget the plan decides
+      -- within the budget the trials are the book's
       counted : ts ≡ trials (problem_of v)
       counted = (s.within h).0 ∙ trials_are
 
-      plan_decides : (m : Option Choice) → plan_by test (problem_of v) ≡ m → found_with ts m ≡ found_for test (problem_of v)
+      found-within : (code : std.Option ℕ) → code ≡ plan_code (plan_by test (problem_of v))
+          → Path (Outcome Planned Refusal) (Ok (record { trials = ts; code = code })) (found_for test (problem_of v))
       unfolding problem_of found_for
-      plan_decides m e =
+      found-within code e =
           let q : ltb v.budget (trials (problem_of v)) ≡ false = le-ltb _ _ (subst (λ x. x ≤ v.budget) counted h) in
-          ap₂ found_with counted (sym e)
-          ∙ sym (ap (λ t. cond t (Err BudgetExceeded) (found_with (trials (problem_of v)) (plan_by test (problem_of v)))) q)
+          ap₂ (λ n k. Ok (record { trials = n; code = k })) counted e
+          ∙ sym (ap (λ t. cond t (Err BudgetExceeded) within) q)
 
       key_is : key_of r ≡ key? (plan_by test (problem_of v))
       key_is = found ∙ layer-plan ws lows highs cur (s.within h).1 test
 
-      pub found-missing : r.worth ≡ 0 → Path (Outcome Planned Refusal) (Err NoPlan) (found_for test (problem_of v))
-      found-missing z = plan_decides none (cell-none r (plan_by test (problem_of v)) key_is z)
+      pub found-missing : r.worth ≡ 0 → Path (Outcome Planned Refusal) (Ok (record { trials = ts; code = None })) (found_for test (problem_of v))
+      found-missing z = found-within None (sym (ap plan_code (cell-none r (plan_by test (problem_of v)) key_is z)))
 
-      pub found-plan : (r.worth ≡ 0 → ⊥) → Path (Outcome Planned Refusal) (Ok (record { trials = ts; code = r.code })) (found_for test (problem_of v))
+      pub found-plan : (r.worth ≡ 0 → ⊥) → Path (Outcome Planned Refusal) (Ok (record { trials = ts; code = Some r.code })) (found_for test (problem_of v))
       found-plan n =
           let c = cell-some r (plan_by test (problem_of v)) key_is n in
-          ap (λ k. Ok (record { trials = ts; code = k })) c.2 ∙ plan_decides (some c.0) c.1
+          found-within (Some r.code) (ap Some c.2 ∙ sym (ap plan_code c.1))

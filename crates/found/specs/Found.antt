@@ -1,9 +1,9 @@
 -- What the search of a book finds.
-use Rattle.std.specs.Prelude.{ℕ, cond, ltb, Ok, Err}
+use Rattle.std.specs.Prelude.{ℕ, cond, ltb, Ok, Err, Some, None}
 use Rattle.std.specs.Prelude as std
 use Rattle.std.proofs.Math.Option.{Option, none, some}
 use Rattle.model.specs.declared.Refusal.{Refusal}
-use Rattle.model.specs.declared.Refusal.TheVariants.{BudgetExceeded, NoPlan}
+use Rattle.model.specs.declared.Refusal.TheVariants.{BudgetExceeded}
 use Rattle.model.specs.Book.{Problem}
 use Rattle.model.specs.Choice.{Choice, code_of}
 use Rattle.model.specs.Grid.{plan}
@@ -18,11 +18,11 @@ abbrev pub plan_by : Test → Problem → Option Choice
 plan_by Admission = plan
 plan_by TrueSums = strict_plan
 
--- what the search finds once the book's trials are within the budget: 17, or the plan's code
-abbrev pub found_with : ℕ → Option Choice → std.Result Planned Refusal
-found_with ts none = Err NoPlan
-found_with ts (some c) = Ok (record { trials = ts; code = code_of c })
+-- the code of a plan, where there is one
+abbrev pub plan_code : Option Choice → std.Option ℕ
+plan_code none = None
+plan_code (some c) = Some (code_of c)
 
--- and 12 before that
+-- what the search finds: 12 where the book's trials are over the budget; else the trials, and the plan's code
 unfoldable pub found_for : Test → Problem → std.Result Planned Refusal
-found_for test b = cond (ltb b.budget (trials b)) (Err BudgetExceeded) (found_with (trials b) (plan_by test b))
+found_for test b = cond (ltb b.budget (trials b)) (Err BudgetExceeded) (Ok (record { trials = trials b; code = plan_code (plan_by test b) }))

@@ -1,4 +1,4 @@
-// What the search finds: the plan of a book whose table fits the work area, or refusal 12 or 17.
+// What the search finds: the trials of a book whose table fits the work area, and the plan's code or that there is no plan; or refusal 12.
 #![tactic(auto)]
 
 ghost use Rattle.std.specs.Prelude.{◌≡◌, ◌≤◌, length};
@@ -12,11 +12,11 @@ use grid::Grid;
 use model::{Book, Refusal};
 use scan::Test;
 
-// The plan that was found: the trials, and the code of its choice.
+// What was found within the budget: the trials, and the code of the plan's choice, where there is a plan.
 #[derive(Clone, Copy)]
 pub struct Planned {
     pub trials: u64,
-    pub code: u64,
+    pub code: Option<u64>,
 }
 
 // Searches the table of a book that fits into the work area; the test says which cells of the last layer may be the plan.
@@ -35,13 +35,14 @@ pub fn search_for(book: Book, grid: Grid, work: &mut [u64], test: Test) -> Resul
     if budget < trials {
         return Err(Refusal::BudgetExceeded);
     }
+    let trials = trials as u64;
     let best = scan::scan(work, grid, ran.cur, &ran.layer, book, test);
     // A reached cell holds its worth plus 1, so a plan's is not 0.
     if best.worth == 0 {
-        return Err(Refusal::NoPlan);
+        return Ok(Planned { trials, code: None });
     }
     Ok(Planned {
-        trials: trials as u64,
-        code: best.code,
+        trials,
+        code: Some(best.code),
     })
 }

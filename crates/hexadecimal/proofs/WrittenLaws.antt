@@ -2,13 +2,11 @@
 -- Assumes nothing.
 use Prim.Native.Nat.{ℕ, suc, ◌+◌, ◌*◌, ◌-◌, ◌/◌, ◌%◌, ◌^◌, ◌≤◌, ◌<◌}
 use mathlib.Core.List.{List, [], ◌∷◌, ◌++◌, map, map-append, append_assoc, append-nil}
-use mathlib.Core.Path.{◌≡◌, refl, sym, ap, ap₂, ◌∙◌}
+use mathlib.Core.Path.{◌≡◌, sym, ap, ap₂, ◌∙◌}
 use native.Mathlib.Nat.{add-zero, add_assoc, zero-add, sub_self, div-one, div-div-eq-div-mul, pow-zero, pow-suc, mul-le-mul_left}
 use native.Mathlib.Numerals.{add-one}
 use native.Mathlib.Omega.{arith}
 use lib.ListN.{length, get_or, take, drop, set, length-append, length-take, length-drop, take-append-drop}
-use borrow.Rule.Slice.PartMut.{put_mid}
-use Rattle.std.proofs.lemmas.Slice.{put_mid-paste}
 use lib.Seq.{take_at, drop_at, set_at, take-suc, drop-drop, length-take-le, take-add, take-length, drop-length}
 use Rattle.model.specs.Lists.{concat}
 use Rattle.model.specs.Frames.{digit, digits}
@@ -128,11 +126,14 @@ row_more n xs l l' l'' at p i e f q few h =
     (omega (arith, row_inside n i (length xs) few, length_digits n (get_or xs i 0)))
     ∙ ap (written l at) (sym (row_last n xs i few))
 
--- bytes copied into the part from `at` on
-pub put_is_written : (l part bytes : List ℕ) (at n : ℕ) → part ≡ bytes → n ≡ length bytes → put_mid at n l part ≡ written l at bytes
-unfolding written
-put_is_written l part bytes at n e k =
-    put_mid-paste at n l part bytes (length bytes) e (sym k) refl ∙ rw take-length refl
+-- bytes copied one by one, from the first on: one more
+pub copied_more : (bytes l l' : List ℕ) (at i : ℕ) → l' ≡ written l at (take i bytes) → i < length bytes → at + length bytes ≤ length l → length l' ≡ length l
+    → set l' (at + i) (get_or bytes i 0) ≡ written l at (take (i + 1) bytes)
+copied_more bytes l l' at i e h k n =
+    let m : at + i ≡ at + length (take i bytes) = ap (λ j. at + j) (sym (length-take-le i bytes (omega arith))) in
+    write_byte l' (at + i) (get_or bytes i 0) (omega (arith, n))
+    ∙ write_on l l' at (at + i) (take i bytes) (get_or bytes i 0 ∷ []) e m (omega arith)
+    ∙ ap (written l at) (sym (take-suc bytes i 0 h) ∙ ap (λ j. take j bytes) (sym (add-one i)))
 
 -- ---- the digits of x, written from the last on: with `left` of n digits still to write, `rest` is x without the others
 

@@ -86,12 +86,14 @@ pub fn write_row(buf: &mut [u8], at: usize, n: usize, xs: &[u64])
 }
 
 // Writes these bytes from `at` on.
-#[tactic(auto, using(crate::proofs::WrittenLaws::put_is_written))]
+// Not `copy_from_slice`: the archive would need memmove of the C library.
 pub fn copy(buf: &mut [u8], at: usize, bytes: &[u8])
     requires { at + length bytes.now ≤ length buf.old }
     ensures { buf.new ≡ written buf.old at bytes.now }
 {
-    buf[at..at + bytes.len()].copy_from_slice(bytes);
+    for (i, b) in bytes.iter().enumerate() {
+        buf[at + i] = *b;
+    }
 }
 
 pub fn outside(x: u64, low: u64, high: u64) -> bool

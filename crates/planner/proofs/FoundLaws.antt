@@ -7,7 +7,8 @@ use mathlib.Core.Option.{Option, none, some}
 use Prim.Native.Nat.{ℕ}
 use lib.Dec.{ltb}
 use lib.ListN.{take}
-use Rattle.std.specs.Prelude.{Ok, Err, Result as Outcome}
+use Rattle.std.specs.Prelude as std
+use Rattle.std.specs.Prelude.{Ok, Err, Some, None, Result as Outcome}
 use Rattle.model.specs.declared.Book.{Book}
 use Rattle.model.specs.declared.Refusal.{Refusal}
 use Rattle.model.specs.declared.Refusal.TheVariants.{BudgetExceeded, NoPlan}
@@ -25,65 +26,80 @@ use Rattle.sums.proofs.PickLaws.{held-code-picked, held-code-choice}
 use Rattle.scan.specs.declared.Test.{Test}
 use Rattle.scan.specs.declared.Test.TheVariants.{Admission, TrueSums}
 use Rattle.found.specs.declared.Planned.{Planned}
-use Rattle.found.specs.Found.{plan_by, found_with, found_for}
+use Rattle.found.specs.Found.{plan_by, plan_code, found_for}
 
 -- each planner's plan is a choice of the book
 plan-choice : (test : Test) (b : Problem) (c : Choice) → plan_by test b ≡ some c → IsChoice b.loads c
 plan-choice Admission b c e = (plan-is b c e).choice
 plan-choice TrueSums b c e = (strict_is b c e).compared.choice
 
-IsPlan : Outcome Planned Refusal → Type 0
-IsPlan (Ok v) = Unit {0}
-IsPlan (Err r) = ⊥
+IsFound : Outcome Planned Refusal → Type 0
+IsFound (Ok v) = Unit {0}
+IsFound (Err r) = ⊥
+
+HasCode : std.Option ℕ → Type 0
+HasCode (Some code) = Unit {0}
+HasCode None = ⊥
 
 module _ (b : Problem) where
   -- what a result says of the sheet, where `over` is whether the trials are over the budget and m is the plan
   abbrev found_at : Bool → Option Choice → Outcome Planned Refusal
-  found_at over m = cond over (Err BudgetExceeded) (found_with (trials b) m)
+  found_at over m = cond over (Err BudgetExceeded) (Ok (record { trials = trials b; code = plan_code m }))
 
   abbrev sheet_at : Bool → Option Choice → Result Output
   sheet_at over m = checked 0 (first ((over ⇒ BudgetExceeded) ∷ [])) (planned b m)
 
-  refused_at : (r : Refusal) (over : Bool) (m : Option Choice) → Path (Outcome Planned Refusal) (Err r) (found_at over m) → sheet_at over m ≡ refused r 0
-  unfolding IsPlan first
-  refused_at r over m = go over m
+  refused_at : (r : Refusal) (over : Bool) (m : Option Choice) → Path (Outcome Planned Refusal) (Err r) (found_at over m)
+      → (r ≡ BudgetExceeded) × (sheet_at over m ≡ refused BudgetExceeded 0)
+  unfolding IsFound first
+  refused_at r true m e = (same r BudgetExceeded e, refl)
     where
       same : (x y : Refusal) → Path (Outcome Planned Refusal) (Err x) (Err y) → x ≡ y
       same x y e = cc
+  refused_at r false m e = absurd (subst IsFound (sym e) tt)
 
-      go : (over : Bool) (m : Option Choice) → Path (Outcome Planned Refusal) (Err r) (found_at over m) → sheet_at over m ≡ refused r 0
-      go true m e = ap (λ x. refused x 0) (sym (same r BudgetExceeded e))
-      go false none e = ap (λ x. refused x 0) (sym (same r NoPlan e))
-      go false (some c) e = absurd (subst IsPlan (sym e) tt)
+  -- within the budget there is no plan, or the plan's sheet
+  module _ (v : Planned) where
+    same : (w : Planned) → Path (Outcome Planned Refusal) (Ok v) (Ok w) → v ≡ w
+    same w e = cc
 
-  planned_at : (v : Planned) (over : Bool) (m : Option Choice) → Path (Outcome Planned Refusal) (Ok v) (found_at over m)
-      → (c : Choice) × (m ≡ some c) × (v.code ≡ code_of c) × (done (sheet_of b c v.trials) ≡ sheet_at over m)
-  unfolding IsPlan first
-  planned_at v over m = go over m
-    where
-      same : (x y : Planned) → Path (Outcome Planned Refusal) (Ok x) (Ok y) → x ≡ y
-      same x y e = cc
+    missing_at : (over : Bool) (m : Option Choice) → Path (Outcome Planned Refusal) (Ok v) (found_at over m) → v.code ≡ None → sheet_at over m ≡ refused NoPlan 0
+    unfolding IsFound HasCode first
+    missing_at true m e z = absurd (subst IsFound e tt)
+    missing_at false none e z = refl
+    missing_at false (some c) e z = absurd (subst HasCode (sym (ap (λ (x : Planned). x.code) (same _ e)) ∙ z) tt)
 
-      go : (over : Bool) (m : Option Choice) → Path (Outcome Planned Refusal) (Ok v) (found_at over m)
-          → (c : Choice) × (m ≡ some c) × (v.code ≡ code_of c) × (done (sheet_of b c v.trials) ≡ sheet_at over m)
-      go true m e = absurd (subst IsPlan e tt)
-      go false none e = absurd (subst IsPlan e tt)
-      go false (some c) e =
-          let q : v ≡ record { trials = trials b; code = code_of c } = same v _ e in
-          (c, refl, ap (λ (x : Planned). x.code) q, ap (λ (x : Planned). done (sheet_of b c x.trials)) q)
+    planned_at : (code : ℕ) (over : Bool) (m : Option Choice) → Path (Outcome Planned Refusal) (Ok v) (found_at over m) → v.code ≡ Some code
+        → (c : Choice) × (m ≡ some c) × (code ≡ code_of c) × (done (sheet_of b c v.trials) ≡ sheet_at over m)
+    unfolding IsFound HasCode first
+    planned_at code true m e z = absurd (subst IsFound e tt)
+    planned_at code false none e z = absurd (subst HasCode (sym z ∙ ap (λ (x : Planned). x.code) (same _ e)) tt)
+    planned_at code false (some c) e z =
+        let q : v ≡ record { trials = trials b; code = Some (code_of c) } = same _ e in
+        let k : code ≡ code_of c = some_same _ _ (sym z ∙ ap (λ (x : Planned). x.code) q) in
+        (c, refl, k, ap (λ (x : Planned). done (sheet_of b c x.trials)) q)
+      where
+        some_same : (x y : ℕ) → Path (std.Option ℕ) (Some x) (Some y) → x ≡ y
+        some_same x y e = cc
 
--- a refusal
-pub search-refused : (test : Test) (b : Problem) (r : Refusal) → Path (Outcome Planned Refusal) (Err r) (found_for test b) → plan_sheet (plan_by test) b ≡ refused r 0
+-- a refusal is 12
+pub search-refused : (test : Test) (b : Problem) (r : Refusal) → Path (Outcome Planned Refusal) (Err r) (found_for test b)
+    → (r ≡ BudgetExceeded) × (plan_sheet (plan_by test) b ≡ refused BudgetExceeded 0)
 unfolding found_for plan_sheet
 search-refused test b r = refused_at b r (ltb b.budget (trials b)) (plan_by test b)
 
-module _ (test : Test) (v : Book) (held : Held v) (s : Planned) (found : Path (Outcome Planned Refusal) (Ok s) (found_for test (problem_of v)))
-    (picks : List ℕ) (digits : take v.count picks ≡ decode v.count s.code) where
-  the_plan : (c : Choice) × (plan_by test (problem_of v) ≡ some c) × (s.code ≡ code_of c) × (done (sheet_of (problem_of v) c s.trials) ≡ plan_sheet (plan_by test) (problem_of v))
-  unfolding found_for plan_sheet problem_of
-  the_plan = planned_at (problem_of v) s (ltb v.budget (trials (problem_of v))) (plan_by test (problem_of v)) found
+-- no plan
+pub search-missing : (test : Test) (b : Problem) (s : Planned) → Path (Outcome Planned Refusal) (Ok s) (found_for test b) → s.code ≡ None → plan_sheet (plan_by test) b ≡ refused NoPlan 0
+unfolding found_for plan_sheet
+search-missing test b s = missing_at b s (ltb b.budget (trials b)) (plan_by test b)
 
-  coded : IsCode (problem_of v) s.code
+module _ (test : Test) (v : Book) (held : Held v) (s : Planned) (found : Path (Outcome Planned Refusal) (Ok s) (found_for test (problem_of v)))
+    (code : ℕ) (is : s.code ≡ Some code) (picks : List ℕ) (digits : take v.count picks ≡ decode v.count code) where
+  the_plan : (c : Choice) × (plan_by test (problem_of v) ≡ some c) × (code ≡ code_of c) × (done (sheet_of (problem_of v) c s.trials) ≡ plan_sheet (plan_by test) (problem_of v))
+  unfolding found_for plan_sheet problem_of
+  the_plan = planned_at (problem_of v) s code (ltb v.budget (trials (problem_of v))) (plan_by test (problem_of v)) found is
+
+  coded : IsCode (problem_of v) code
   coded = record { choice = the_plan.0; of_book = plan-choice test (problem_of v) the_plan.0 the_plan.1; is = the_plan.2 }
 
   pub found-picked : Picked (problem_of v) picks

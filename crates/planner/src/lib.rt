@@ -26,7 +26,10 @@ fn plan_book(book: Book, work: &mut [u64], sheet: &mut [u8], test: Test) -> Resu
     let grid = grid::grid_of(book);
     fits::size_finding(book, grid.cells, work.len(), sheet.len())?;
     let plan = found::search_for(book, grid, work, test)?;
-    let picks = sums::picks_of(plan.code, book.count);
+    let Some(code) = plan.code else {
+        return Err(Refusal::NoPlan);
+    };
+    let picks = sums::picks_of(code, book.count);
     Ok(sheet::write_sheet(book, picks, plan.trials, sheet))
 }
 

@@ -1,4 +1,4 @@
--- `planner::plan_book` meets its contract: a refusal of 9 to 11, or of the search, or the plan's sheet.
+-- `planner::plan_book` meets its contract: a refusal of 9 to 11, the search's, which is 12, or 17, or the plan's sheet.
 use mathlib.Core.Path.{refl, sym, ◌∙◌}
 use Rattle.std.proofs.lemmas.Result.{err_from_is_err_and}
 use Rattle.model.proofs.AnswerLaws.{writes-same, refused-writes}
@@ -6,7 +6,7 @@ use Rattle.model.proofs.HeldLaws.{held-few}
 use Rattle.grid.proofs.SlotLaws.{cells_capped}
 use Rattle.fits.proofs.SizeLaws.{fits_words, fits_room, fits-few}
 use Rattle.planner.proofs.CallLaws.{fitting-plan}
-use Rattle.planner.proofs.FoundLaws.{search-refused, found-picked, found-sheet}
+use Rattle.planner.proofs.FoundLaws.{search-refused, search-missing, found-picked, found-sheet}
 use Rattle.planner.proofs.plan_book.Goals as goal
 
 pub size_finding-requires-clause-capped : goal.size_finding-requires-clause-capped
@@ -24,15 +24,21 @@ pub returns-in_err-plan-clause-result : goal.returns-in_err-plan-clause-result
 returns-in_err-plan-clause-result c =
     let a = c.args in
     let p = err_from_is_err_and c.from_residual-in_err-plan.result c.from_residual-in_err-plan.ensures.1 in
-    rw (p.1, p.2) (refused-writes _ _ 0 a.sheet.now _ refl
-    (fitting-plan a.test _ _ _ (sym c.in_ok-size_finding.ensures) ∙ search-refused a.test _ _ c.in_err-plan.ensures.found))
+    let s = search-refused a.test _ _ c.in_err-plan.ensures.found in
+    rw (p.1, p.2, s.0) (refused-writes _ _ 0 a.sheet.now _ refl (fitting-plan a.test _ _ _ (sym c.in_ok-size_finding.ensures) ∙ s.1))
+
+pub returns-in_default-clause-result : goal.returns-in_default-clause-result
+returns-in_default-clause-result c =
+    let a = c.args in
+    refused-writes _ _ 0 a.sheet.now _ refl
+    (fitting-plan a.test _ _ _ (sym c.in_ok-size_finding.ensures) ∙ search-missing a.test _ _ c.in_ok-plan.ensures.found c.in_default.is)
 
 pub picks_of-picks-requires : goal.picks_of-picks-requires
 picks_of-picks-requires c = held-few c.args.book c.requires
 
 pub write_sheet-requires-clause-picked : goal.write_sheet-requires-clause-picked
 write_sheet-requires-clause-picked c =
-    found-picked c.args.test c.args.book c.requires _ c.in_ok-plan.ensures.found _ c.picks_of-picks.ensures
+    found-picked c.args.test c.args.book c.requires _ c.in_ok-plan.ensures.found _ c.in-Some.is _ c.picks_of-picks.ensures
 
 pub write_sheet-requires-clause-book_in_bounds : goal.write_sheet-requires-clause-book_in_bounds
 write_sheet-requires-clause-book_in_bounds c = fits_room _ _ _ (sym c.in_ok-size_finding.ensures)
@@ -41,6 +47,6 @@ pub returns-clause-result : goal.returns-clause-result
 returns-clause-result c =
     let a = c.args in
     writes-same
-    (found-sheet a.test a.book c.requires _ c.in_ok-plan.ensures.found _ c.picks_of-picks.ensures
+    (found-sheet a.test a.book c.requires _ c.in_ok-plan.ensures.found _ c.in-Some.is _ c.picks_of-picks.ensures
     ∙ sym (fitting-plan a.test _ _ _ (sym c.in_ok-size_finding.ensures)))
     c.write_sheet.ensures

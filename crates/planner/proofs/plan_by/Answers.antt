@@ -52,6 +52,6 @@ returns-in-Err-plan_book-clause-result c =
 pub returns-in-Err-plan_book-clause-words : goal.returns-in-Err-plan_book-clause-words
 returns-in-Err-plan_book-clause-words c =
     let a = c.args in
-    subst (λ n. WordsKept n a.work.now c.plan_book.new.work)
+    subst (λ m. WordsKept m a.work.now c.plan_book.new.work)
     (fitted-free _ _ a.test a.book.now _ c.in-Ok.ensures (sym c.too_coarse.ensures ∙ c.if-too_coarse.false))
     c.in-Err-plan_book.ensures.words
